@@ -50,7 +50,7 @@ pub record Halts (why : NoLine) (all : List (Option (List ℕ))) (said : List �
   pub fails : Fails why line
   pub heard : WavesState
   pub lead : DoesAll Dumping from (wholes before) said heard
-  pub held : to.held ≡ heard.held
+  pub held : to.fibre ≡ heard.fibre
   pub written : to.written ≡ heard.written
 
 abbrev pub Course : Option NoLine → List (Option (List ℕ)) → List ℕ → WavesState → WavesState → Type 0
@@ -77,7 +77,7 @@ halted line ls state next new said first rest why nothing is fails parts h =
     let same : new.written ≡ state.written = ap (λ (s : WavesState). s.written) end.1 ∙ ap (λ (s : WavesState). s.written) is in
     let grown : Grows state.written said new.written =
     subst (λ (l : List ℕ). Grows state.written l new.written) (sym silent) (subst (λ (w : Written). Grows state.written [] w) (sym same) (grows_none state.written)) in
-    let held : new.held ≡ state.held = ap (λ (s : WavesState). s.held) end.1 ∙ ap (λ (s : WavesState). s.held) is in
+    let held : new.fibre ≡ state.fibre = ap (λ (s : WavesState). s.fibre) end.1 ∙ ap (λ (s : WavesState). s.fibre) is in
     let there : Course (Some why) (line ∷ ls) said state new =
     record {
       before = [];
@@ -142,13 +142,13 @@ text_course : (text : List ℕ) (ls : List (Option (List ℕ))) (old next new : 
     → SaysToText old text first next → said ≡ first ++ rest → DoesAll Dumping next ls rest new
     → (next.ended ≡ None → Course new.ended ls rest next new) → Course new.ended (Some text ∷ ls) said old new
 text_course text ls old next new said first rest none (inl told) parts h more =
-    let is = told.4 in
+    let is = told.5 in
     let says : Says old (Some text) first next =
     subst (λ (e : Option NoLine). SaysFrom e old (Some text) first next) (sym none) (inl told) in
     let before : Course new.ended ls rest next new = more (ap (λ (s : WavesState). s.ended) is ∙ none) in
     onto new.ended old next new text ls said first rest told.0 told.1 (ap (λ (s : WavesState). s.lines) is) (ap (λ (s : WavesState). s.heard) is)
     (ap (λ (s : WavesState). s.times) is) (ap (λ (s : WavesState). s.mask) is) (ap (λ (s : WavesState). s.codes) is)
-    (spills_grow told.2 old.written first next.held next.written told.3) says parts before
+    (spills_grow told.2.held old.written first next.fibre.held next.written told.4) says parts before
 text_course text ls old next new said first rest none (inr none_of) parts h more =
     halted (Some text) ls old next new said first rest NotALine none_of.1 none_of.2 (refl, none_of.0) parts h
 

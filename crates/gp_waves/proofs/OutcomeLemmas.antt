@@ -133,8 +133,8 @@ some_dump old new text shut p =
     some_dump_as new.begun old.dump new.dump text (subst (λ (t : Bool). GrowsAs t new.begun old.dump text new.dump) shut p)
 
 -- what is known where it begins
-pub record IsOpened (mask : Mask) (state : WavesState) : Type 0 where
-  pub is : state ≡ opened mask
+pub record IsOpened (frames : Frames) (mask : Mask) (state : WavesState) : Type 0 where
+  pub is : state ≡ opened frames mask
   pub lines : state.lines ≡ 0
   pub heard : state.heard ≡ false
   pub ended : state.ended ≡ None
@@ -143,8 +143,8 @@ pub record IsOpened (mask : Mask) (state : WavesState) : Type 0 where
   pub codes : state.codes ≡ no_codes
   pub begun : state.written.begun ≡ false
 
-pub opens : (mask : Mask) (state : WavesState) → state ≡ opened mask → IsOpened mask state
-opens mask state is = record {
+pub opens : (frames : Frames) (mask : Mask) (state : WavesState) → state ≡ opened frames mask → IsOpened frames mask state
+opens frames mask state is = record {
   is = is;
   lines = ap (λ (s : WavesState). s.lines) is;
   heard = ap (λ (s : WavesState). s.heard) is;
@@ -155,9 +155,9 @@ opens mask state is = record {
   begun = ap (λ (s : WavesState). s.written.begun) is;
 }
 
-started : (mask : Mask) (old new : WavesState) (ls : List (Option (List ℕ))) (said : List ℕ) → IsOpened mask old → DoesAll Dumping old ls said new
+started : (frames : Frames) (mask : Mask) (old new : WavesState) (ls : List (Option (List ℕ))) (said : List ℕ) → IsOpened frames mask old → DoesAll Dumping old ls said new
     → Course new.ended ls said old new
-started mask old new ls said o h = course ls old new said o.ended h
+started frames mask old new ls said o h = course ls old new said o.ended h
 
 course_grows : (ended : Option NoLine) (ls : List (Option (List ℕ))) (said : List ℕ) (from to : WavesState) → Course ended ls said from to
     → Grows from.written said to.written
@@ -167,16 +167,16 @@ course_grows (Some why) ls said from to c = c.grown
 -- ---- behind the last line
 
 -- the writer got the dump of some lines, wherever what was said to them led
-abbrev Gets : {W : Type 0} → Mask → SinkState W → SinkState W → ℕ → WavesState → List ℕ → WavesState → Type 0
-Gets mask before after late old said state =
-    (heard : WavesState) (lines : List (Option (List ℕ))) → DoesAll Dumping old lines said heard → state.held ≡ heard.held → state.written ≡ heard.written
-    → GetsDump mask lines before after late
+abbrev Gets : {W : Type 0} → Frames → Mask → SinkState W → SinkState W → ℕ → WavesState → List ℕ → WavesState → Type 0
+Gets frames mask before after late old said state =
+    (heard : WavesState) (lines : List (Option (List ℕ))) → DoesAll Dumping old lines said heard → state.fibre ≡ heard.fibre → state.written ≡ heard.written
+    → GetsDump frames mask lines before after late
 
 module _ {R W : Type 0} (frames : Frames) (mask : Mask) (from to : SourceState R) (before mid after : SinkState W) where
   -- the rest was written behind what was said to lines
-  dumped : (old state last : WavesState) (said text : List ℕ) → IsOpened mask old → Grows old.written said state.written → IsRest state last text
+  dumped : (old state last : WavesState) (said text : List ℕ) → IsOpened frames mask old → Grows old.written said state.written → IsRest state last text
       → Appends before.held mid.held (before.gathered ++ said) → KeepsNothing mid → WritesWhole {T = Unit {0}} {E = WriteStopped} mid after text (Ok (tt {0}))
-      → Gets mask before after last.written.late old said state
+      → Gets frames mask before after last.written.late old said state
   dumped old state last said text o grown rest written kept w heard lines lead held same =
       let all = before.gathered ++ said in
       let both = Appends-trans before.held mid.held after.held all text written (takes_whole mid after text w.gives.ok kept.0 w.empty) in
@@ -198,7 +198,7 @@ module _ {R W : Type 0} (frames : Frames) (mask : Mask) (from to : SourceState R
       }
 
   -- or a part of it
-  begun_rest : (old state last : WavesState) (bytes said text : List ℕ) (stopped : WriteStopped) → IsOpened mask old → Grows old.written said state.written → IsRest state last text
+  begun_rest : (old state last : WavesState) (bytes said text : List ℕ) (stopped : WriteStopped) → IsOpened frames mask old → Grows old.written said state.written → IsRest state last text
       → Consumes from.remaining to.remaining bytes → Appends before.held mid.held (before.gathered ++ said) → KeepsNothing mid
       → WritesWhole {T = Unit {0}} mid after text (Err stopped) → IsBegun from to before after
   begun_rest old state last bytes said text stopped o grown rest came written kept w =
@@ -217,7 +217,7 @@ module _ {R W : Type 0} (frames : Frames) (mask : Mask) (from to : SourceState R
       }
 
   -- or nothing of it
-  begun_none : (old state : WavesState) (bytes said : List ℕ) → IsOpened mask old → Grows old.written said state.written → Consumes from.remaining to.remaining bytes
+  begun_none : (old state : WavesState) (bytes said : List ℕ) → IsOpened frames mask old → Grows old.written said state.written → Consumes from.remaining to.remaining bytes
       → Appends before.held mid.held (before.gathered ++ said) → after ≡ mid → IsBegun from to before after
   begun_none old state bytes said o grown came written same =
       let some = some_dump old.written state.written said o.begun grown in
@@ -233,7 +233,7 @@ module _ {R W : Type 0} (frames : Frames) (mask : Mask) (from to : SourceState R
       }
 
   -- the rest could not be written
-  unwritten : (old state last : WavesState) (bytes said : List ℕ) (fault : ExplainFault) → IsOpened mask old → Grows old.written said state.written
+  unwritten : (old state last : WavesState) (bytes said : List ℕ) (fault : ExplainFault) → IsOpened frames mask old → Grows old.written said state.written
       → Consumes from.remaining to.remaining bytes → Appends before.held mid.held (before.gathered ++ said) → KeepsNothing mid
       → WritesRest state last mid after (Err fault) → DumpsWaves frames mask from to before after (Err fault)
   unwritten old state last bytes said (Refused line why) o grown came written kept w = absurd w
@@ -244,8 +244,8 @@ module _ {R W : Type 0} (frames : Frames) (mask : Mask) (from to : SourceState R
       (inl (begun_rest old state last bytes said text stopped o grown rest came written kept w), λ is. absurd (room is))
 
   refused : (why : NoLine) (old state : WavesState) (bytes : List ℕ) (ls others : List (List ℕ)) (said : List ℕ) (late : ℕ) → Consumes from.remaining to.remaining bytes
-      → lines_of bytes ≡ ls ++ others → old.lines ≡ 0 → Halts why (map (handed longest_line) ls) said old state → Gets mask before after late old said state
-      → IsRefused mask from to before after state.lines why
+      → lines_of bytes ≡ ls ++ others → old.lines ≡ 0 → Halts why (map (handed longest_line) ls) said old state → Gets frames mask before after late old said state
+      → IsRefused frames mask from to before after state.lines why
   refused why old state bytes ls others said late came is zero halts gets =
       let p = parted longest_line ls halts.before halts.line halts.rest halts.all_is in
       let many = halts.lines in
@@ -264,9 +264,9 @@ module _ {R W : Type 0} (frames : Frames) (mask : Mask) (from to : SourceState R
       }
 
   -- what was found where an input was read to its end
-  found_whole : (ended : Option NoLine) (old state : WavesState) (text said : List ℕ) (late : ℕ) (answer : Result WavesSum ExplainFault) → IsOpened mask old
+  found_whole : (ended : Option NoLine) (old state : WavesState) (text said : List ℕ) (late : ℕ) (answer : Result WavesSum ExplainFault) → IsOpened frames mask old
       → ReadsWhole from to text → DoesAll Dumping old (map (handed longest_line) (lines_of text)) said state
-      → Course ended (map (handed longest_line) (lines_of text)) said old state → Gets mask before after late old said state
+      → Course ended (map (handed longest_line) (lines_of text)) said old state → Gets frames mask before after late old said state
       → IsFoundBy frames late ended state answer → DumpsWaves frames mask from to before after answer
   found_whole None old state text said late (Ok sum) o read spoken c gets found =
       let same : lines_of text ≡ c.texts = handed_all longest_line (lines_of text) c.texts c.all_is in
@@ -288,7 +288,7 @@ module _ {R W : Type 0} (frames : Frames) (mask : Mask) (from to : SourceState R
             (subst (λ (m : Mask). CodesLead m (lines_of text) no_codes state.codes) o.mask_is
             (subst (λ (s : Codes). CodesLead old.mask (lines_of text) s state.codes) o.codes
             (subst (λ (ls : List (List ℕ)). CodesLead old.mask ls old.codes state.codes) (sym same) c.codes)));
-        dumped = subst (λ (n : ℕ). GetsDump mask (map (handed longest_line) (lines_of text)) before after n) (sym found.5)
+        dumped = subst (λ (n : ℕ). GetsDump frames mask (map (handed longest_line) (lines_of text)) before after n) (sym found.5)
             (gets state (map (handed longest_line) (lines_of text)) spoken refl refl);
       }
   found_whole None old state text said late (Err fault) o read spoken c gets found = absurd found
@@ -298,8 +298,8 @@ module _ {R W : Type 0} (frames : Frames) (mask : Mask) (from to : SourceState R
 
   -- or until a line ended it
   found_over : (ended : Option NoLine) (old state : WavesState) (bytes said : List ℕ) (late : ℕ) (answer : Result WavesSum ExplainFault) → is_some ended ≡ true
-      → IsOpened mask old → Consumes from.remaining to.remaining bytes → Course ended (map (handed longest_line) (ended_lines bytes)) said old state
-      → Gets mask before after late old said state → IsFoundBy frames late ended state answer → DumpsWaves frames mask from to before after answer
+      → IsOpened frames mask old → Consumes from.remaining to.remaining bytes → Course ended (map (handed longest_line) (ended_lines bytes)) said old state
+      → Gets frames mask before after late old said state → IsFoundBy frames late ended state answer → DumpsWaves frames mask from to before after answer
   found_over None old state bytes said late answer some o came c gets found = absurd (never some)
   found_over (Some why) old state bytes said late answer some o came c gets found =
       let e = ended_first bytes [] in
@@ -323,40 +323,40 @@ module _ {R W : Type 0} (frames : Frames) (mask : Mask) (from to : SourceState R
       )
   found_before ended None state last late (Err fault) is many heard times codes found = subst (λ (e : Option NoLine). IsFoundBy frames late e last (Err fault)) is found
 
-  pub dumped_as : (end : LinesEnd) (old state last : WavesState) (answer : Result WavesSum ExplainFault) → IsOpened mask old
+  pub dumped_as : (end : LinesEnd) (old state last : WavesState) (answer : Result WavesSum ExplainFault) → IsOpened frames mask old
       → ServesTo Dumping has_ended longest_line end from to old state before mid → WritesRest state last mid after (Ok (tt {0})) → IsFound frames last answer
       → DumpsWaves frames mask from to before after answer
   dumped_as Whole old state last answer o s w found =
-      let c = started mask old state (map (handed longest_line) (lines_of s.bytes)) s.said o s.spoken in
+      let c = started frames mask old state (map (handed longest_line) (lines_of s.bytes)) s.said o s.spoken in
       let grown = course_grows state.ended _ s.said old state c in
       found_whole state.ended old state s.bytes s.said last.written.late answer o s.read s.spoken c (dumped old state last s.said w.0 o grown w.1 s.written s.kept w.2)
       (found_before last.ended state.ended state last last.written.late answer w.1.ended w.1.lines w.1.heard w.1.times w.1.codes found)
   dumped_as Open old state last answer o s w found =
-      let c = started mask old state (map (handed longest_line) (lines_of s.bytes)) s.said o s.spoken in
+      let c = started frames mask old state (map (handed longest_line) (lines_of s.bytes)) s.said o s.spoken in
       let grown = course_grows state.ended _ s.said old state c in
       found_whole state.ended old state s.bytes s.said last.written.late answer o s.read s.spoken c (dumped old state last s.said w.0 o grown w.1 s.written s.kept w.2)
       (found_before last.ended state.ended state last last.written.late answer w.1.ended w.1.lines w.1.heard w.1.times w.1.codes found)
   dumped_as Over old state last answer o s w found =
-      let c = started mask old state (map (handed longest_line) (ended_lines s.0.bytes)) s.0.said o s.0.spoken in
+      let c = started frames mask old state (map (handed longest_line) (ended_lines s.0.bytes)) s.0.said o s.0.spoken in
       let grown = course_grows state.ended _ s.0.said old state c in
       found_over state.ended old state s.0.bytes s.0.said last.written.late answer s.1 o s.0.read c (dumped old state last s.0.said w.0 o grown w.1 s.0.written s.0.kept w.2)
       (found_before last.ended state.ended state last last.written.late answer w.1.ended w.1.lines w.1.heard w.1.times w.1.codes found)
 
   -- the rest could not be written where the input was read
-  unwritten_to : (end : LinesEnd) (old state last : WavesState) (fault : ExplainFault) → IsOpened mask old
+  unwritten_to : (end : LinesEnd) (old state last : WavesState) (fault : ExplainFault) → IsOpened frames mask old
       → ServesTo Dumping has_ended longest_line end from to old state before mid → WritesRest state last mid after (Err fault)
       → DumpsWaves frames mask from to before after (Err fault)
   unwritten_to Whole old state last fault o s w =
-      let c = started mask old state (map (handed longest_line) (lines_of s.bytes)) s.said o s.spoken in
+      let c = started frames mask old state (map (handed longest_line) (lines_of s.bytes)) s.said o s.spoken in
       unwritten old state last s.bytes s.said fault o (course_grows state.ended _ s.said old state c) s.read.consumed s.written s.kept w
   unwritten_to Open old state last fault o s w =
-      let c = started mask old state (map (handed longest_line) (lines_of s.bytes)) s.said o s.spoken in
+      let c = started frames mask old state (map (handed longest_line) (lines_of s.bytes)) s.said o s.spoken in
       unwritten old state last s.bytes s.said fault o (course_grows state.ended _ s.said old state c) s.read.consumed s.written s.kept w
   unwritten_to Over old state last fault o s w =
-      let c = started mask old state (map (handed longest_line) (ended_lines s.0.bytes)) s.0.said o s.0.spoken in
+      let c = started frames mask old state (map (handed longest_line) (ended_lines s.0.bytes)) s.0.said o s.0.spoken in
       unwritten old state last s.0.bytes s.0.said fault o (course_grows state.ended _ s.0.said old state c) s.0.read s.0.written s.0.kept w
 
-  pub unwritten_as : (end : LinesEnd) (old state last : WavesState) (fault : ExplainFault) (answer : Result WavesSum ExplainFault) → IsOpened mask old
+  pub unwritten_as : (end : LinesEnd) (old state last : WavesState) (fault : ExplainFault) (answer : Result WavesSum ExplainFault) → IsOpened frames mask old
       → ServesTo Dumping has_ended longest_line end from to old state before mid → WritesRest state last mid after (Err fault)
       → IsErrAnd answer (λ told. told ≡ fault) → DumpsWaves frames mask from to before after answer
   unwritten_as end old state last fault (Ok sum) o s w told = absurd told
@@ -364,32 +364,32 @@ module _ {R W : Type 0} (frames : Frames) (mask : Mask) (from to : SourceState R
       subst (λ (x : ExplainFault). DumpsWaves frames mask from to before after (Err x)) (sym told) (unwritten_to end old state last fault o s w)
 
   -- behind the lines that were served all ports are declared, if something is written
-  pub all_to : (end : LinesEnd) (old state : WavesState) → IsOpened mask old → ServesTo Dumping has_ended longest_line end from to old state before mid
+  pub all_to : (end : LinesEnd) (old state : WavesState) → IsOpened frames mask old → ServesTo Dumping has_ended longest_line end from to old state before mid
       → state.written.begun ≡ true → state.written.dump.ports ≡ all_ports
   all_to Whole old state o s begun =
-      let c = started mask old state (map (handed longest_line) (lines_of s.bytes)) s.said o s.spoken in
+      let c = started frames mask old state (map (handed longest_line) (lines_of s.bytes)) s.said o s.spoken in
       all_of old.written state.written s.said o.begun (course_grows state.ended _ s.said old state c) begun
   all_to Open old state o s begun =
-      let c = started mask old state (map (handed longest_line) (lines_of s.bytes)) s.said o s.spoken in
+      let c = started frames mask old state (map (handed longest_line) (lines_of s.bytes)) s.said o s.spoken in
       all_of old.written state.written s.said o.begun (course_grows state.ended _ s.said old state c) begun
   all_to Over old state o s begun =
-      let c = started mask old state (map (handed longest_line) (ended_lines s.0.bytes)) s.0.said o s.0.spoken in
+      let c = started frames mask old state (map (handed longest_line) (ended_lines s.0.bytes)) s.0.said o s.0.spoken in
       all_of old.written state.written s.0.said o.begun (course_grows state.ended _ s.0.said old state c) begun
 
-  pub all_read : (served : LinesFault) (old state : WavesState) → served ≡ faults.Read → IsOpened mask old
+  pub all_read : (served : LinesFault) (old state : WavesState) → served ≡ faults.Read → IsOpened frames mask old
       → Serves Dumping has_ended longest_line from to old state before mid (Err served) → state.written.begun ≡ true → state.written.dump.ports ≡ all_ports
   all_read served old state is o s begun =
       let e = s.read (ap (λ (f : LinesFault). let r : Result LinesEnd LinesFault = Err f in r) is) in
-      let c = started mask old state (map (handed longest_line) (ended_lines e.bytes)) e.said o e.spoken in
+      let c = started frames mask old state (map (handed longest_line) (ended_lines e.bytes)) e.said o e.spoken in
       all_of old.written state.written e.said o.begun (course_grows state.ended _ e.said old state c) begun
 
   -- ---- where the input could not be read
 
-  pub unread : (old state last : WavesState) → IsOpened mask old → Serves Dumping has_ended longest_line from to old state before mid (Err faults.Read)
+  pub unread : (old state last : WavesState) → IsOpened frames mask old → Serves Dumping has_ended longest_line from to old state before mid (Err faults.Read)
       → WritesRest state last mid after (Ok (tt {0})) → DumpsWaves frames mask from to before after (Err (Lines faults.Read))
   unread old state last o s w =
       let e = s.read refl in
-      let c = started mask old state (map (handed longest_line) (ended_lines e.bytes)) e.said o e.spoken in
+      let c = started frames mask old state (map (handed longest_line) (ended_lines e.bytes)) e.said o e.spoken in
       let grown = course_grows state.ended _ e.said old state c in
       record {
         bytes = e.bytes;
@@ -399,23 +399,23 @@ module _ {R W : Type 0} (frames : Frames) (mask : Mask) (from to : SourceState R
         failed = s.failed refl;
       }
 
-  pub unread_unwritten : (old state last : WavesState) (fault : ExplainFault) (answer : Result WavesSum ExplainFault) → IsOpened mask old
+  pub unread_unwritten : (old state last : WavesState) (fault : ExplainFault) (answer : Result WavesSum ExplainFault) → IsOpened frames mask old
       → Serves Dumping has_ended longest_line from to old state before mid (Err faults.Read) → WritesRest state last mid after (Err fault)
       → IsErrAnd answer (λ told. told ≡ fault) → DumpsWaves frames mask from to before after answer
   unread_unwritten old state last fault (Ok sum) o s w told = absurd told
   unread_unwritten old state last fault (Err x) o s w told =
       let e = s.read refl in
-      let c = started mask old state (map (handed longest_line) (ended_lines e.bytes)) e.said o e.spoken in
+      let c = started frames mask old state (map (handed longest_line) (ended_lines e.bytes)) e.said o e.spoken in
       subst (λ (f : ExplainFault). DumpsWaves frames mask from to before after (Err f)) (sym told)
       (unwritten old state last e.bytes e.said fault o (course_grows state.ended _ e.said old state c) e.read e.written e.kept w)
 
-  pub unread_at : (fault : LinesFault) (old state last : WavesState) → fault ≡ faults.Read → IsOpened mask old
+  pub unread_at : (fault : LinesFault) (old state last : WavesState) → fault ≡ faults.Read → IsOpened frames mask old
       → Serves Dumping has_ended longest_line from to old state before mid (Err fault) → WritesRest state last mid after (Ok (tt {0}))
-      → IsUnfinished mask from to before after
+      → IsUnfinished frames mask from to before after
   unread_at fault old state last is o s w =
       unread old state last o (subst (λ (f : LinesFault). Serves Dumping has_ended longest_line from to old state before mid (Err f)) is s) w
 
-  pub unwritten_at : (served : LinesFault) (old state last : WavesState) (fault : ExplainFault) (answer : Result WavesSum ExplainFault) → served ≡ faults.Read → IsOpened mask old
+  pub unwritten_at : (served : LinesFault) (old state last : WavesState) (fault : ExplainFault) (answer : Result WavesSum ExplainFault) → served ≡ faults.Read → IsOpened frames mask old
       → Serves Dumping has_ended longest_line from to old state before mid (Err served) → WritesRest state last mid after (Err fault)
       → IsErrAnd answer (λ told. told ≡ fault) → DumpsWaves frames mask from to before after answer
   unwritten_at served old state last fault answer is o s w told =
@@ -423,7 +423,7 @@ module _ {R W : Type 0} (frames : Frames) (mask : Mask) (from to : SourceState R
 
 module _ {R W : Type 0} (frames : Frames) (mask : Mask) (from to : SourceState R) (before after : SinkState W) where
   -- a prefix of what was gathered and of what was said
-  prefix_begun : (old state : WavesState) (bytes said : List ℕ) → IsOpened mask old → Grows old.written said state.written → Consumes from.remaining to.remaining bytes
+  prefix_begun : (old state : WavesState) (bytes said : List ℕ) → IsOpened frames mask old → Grows old.written said state.written → Consumes from.remaining to.remaining bytes
       → GetsPrefix before after said → IsBegun from to before after
   prefix_begun old state bytes said o grown came g =
       let all = before.gathered ++ said in
@@ -440,11 +440,11 @@ module _ {R W : Type 0} (frames : Frames) (mask : Mask) (from to : SourceState R
         appended = g.written;
       }
 
-  all_begun : (old state : WavesState) (bytes said : List ℕ) → IsOpened mask old → Grows old.written said state.written → Consumes from.remaining to.remaining bytes
+  all_begun : (old state : WavesState) (bytes said : List ℕ) → IsOpened frames mask old → Grows old.written said state.written → Consumes from.remaining to.remaining bytes
       → GetsAll before after said → IsBegun from to before after
   all_begun old state bytes said o grown came g = begun_none frames mask from to before after after old state bytes said o grown came g.written refl
 
-  leaves_begun : (fault : Unanswered) (old state : WavesState) (bytes said : List ℕ) → IsOpened mask old → Grows old.written said state.written
+  leaves_begun : (fault : Unanswered) (old state : WavesState) (bytes said : List ℕ) → IsOpened frames mask old → Grows old.written said state.written
       → Consumes from.remaining to.remaining bytes → Leaves fault before after said → IsBegun from to before after
   leaves_begun Write old state bytes said o grown came g = prefix_begun old state bytes said o grown came g
   leaves_begun OutOfMemory old state bytes said o grown came (inl g) = all_begun old state bytes said o grown came g
@@ -453,18 +453,18 @@ module _ {R W : Type 0} (frames : Frames) (mask : Mask) (from to : SourceState R
   leaves_begun Full old state bytes said o grown came (inr g) = prefix_begun old state bytes said o grown came g.0
 
   -- a line could not be dumped
-  pub line_fault : (fault : Unanswered) (old state : WavesState) → IsOpened mask old → Serves Dumping has_ended longest_line from to old state before after (Err (faults.Line fault))
+  pub line_fault : (fault : Unanswered) (old state : WavesState) → IsOpened frames mask old → Serves Dumping has_ended longest_line from to old state before after (Err (faults.Line fault))
       → DumpsWaves frames mask from to before after (Err (Lines (faults.Line fault)))
   line_fault fault old state o s =
       let e = s.fault fault refl in
       let whole = all_of_some IsFull Says old e.begun e.said e.spoken in
-      let c = started mask old whole.0 e.begun e.said o whole.1 in (
+      let c = started frames mask old whole.0 e.begun e.said o whole.1 in (
         inl (leaves_begun fault old whole.0 e.bytes e.said o (course_grows whole.0.ended e.begun e.said old whole.0 c) e.read e.written),
         λ is. subst (λ (first : WavesState). ServesFull Dumping longest_line from to first) o.is
             (s.full (ap (λ (f : Unanswered). let r : Result LinesEnd LinesFault = Err (faults.Line f) in r) is)),
       )
 
-  pub line_fault_at : (told : LinesFault) (fault : Unanswered) (old state : WavesState) → told ≡ faults.Line fault → IsOpened mask old
+  pub line_fault_at : (told : LinesFault) (fault : Unanswered) (old state : WavesState) → told ≡ faults.Line fault → IsOpened frames mask old
       → Serves Dumping has_ended longest_line from to old state before after (Err told) → DumpsWaves frames mask from to before after (Err (Lines (faults.Line fault)))
   line_fault_at told fault old state is o s =
       line_fault fault old state o (subst (λ (f : LinesFault). Serves Dumping has_ended longest_line from to old state before after (Err f)) is s)

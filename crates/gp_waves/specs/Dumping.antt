@@ -8,46 +8,49 @@ use Rattle.gp_log.specs.declared.line.LogLine.{LogLine}
 use Rattle.gp_log.specs.Line.{Reads, says_nothing}
 use Rattle.gp_finding.specs.declared.codes.Codes.{Codes}
 use Rattle.gp_finding.specs.Codes.{codes_after, no_codes}
-use Rattle.gp_times.specs.Times.{TimesState, times_after, times_begun}
+use Rattle.gp_times.specs.declared.frames.Frames.{Frames}
+use Rattle.gp_times.specs.Times.{TimesState, falls, times_after, times_begun}
 use Rattle.gp_times.specs.Lines.{IsRead, IsUnread}
-use Rattle.gp_waves.specs.Held.{HeldState, nothing_held}
+use Rattle.gp_waves.specs.Hearing.{FibreState, HearsLine, no_fibre}
 use Rattle.gp_waves.specs.Writing.{Spills, Written, unwritten}
 
 -- how many lines came, whether one of them says anything, why the last of them ended it, if it did, the times of the
--- ports, with how many lines fell, the mask of the codes, how many codes came, with how many of them are garbled, the
--- changes that are held back, and what is written
+-- ports, with how many lines fell, the frames that are dumped, the mask of the codes, how many codes came, with how many of them are garbled, what is
+-- kept of the ports with the changes that are held back, and what is written
 pub record WavesState : Type 0 where
   pub lines : ℕ
   pub heard : Bool
   pub ended : Option NoLine
   pub times : TimesState
+  pub frames : Frames
   pub mask : Mask
   pub codes : Codes
-  pub held : HeldState
+  pub fibre : FibreState
   pub written : Written
 
 -- no line came, and nothing is written
-abbrev pub opened : Mask → WavesState
-opened mask = record {
+abbrev pub opened : Frames → Mask → WavesState
+opened frames mask = record {
   lines = 0;
   heard = false;
   ended = None;
   times = times_begun;
+  frames = frames;
   mask = mask;
   codes = no_codes;
-  held = nothing_held;
+  fibre = no_fibre;
   written = unwritten;
 }
 
 -- one line more came, which says this, and these changes are held back and this is written by now
-abbrev pub counted : LogLine → HeldState → Written → WavesState → WavesState
-counted line held written state =
+abbrev pub counted : LogLine → FibreState → Written → WavesState → WavesState
+counted line fibre written state =
     record state {
       lines = state.lines + 1;
       heard = state.heard || not (says_nothing line);
       times = times_after line state.times;
       codes = codes_after state.mask line state.codes;
-      held = held;
+      fibre = fibre;
       written = written;
     }
 
@@ -59,8 +62,10 @@ ended_by why state = record state { lines = state.lines + 1; ended = Some why }
 -- line ends it
 abbrev pub SaysToText : WavesState → List ℕ → List ℕ → WavesState → Type 0
 SaysToText old text said new =
-    ((line : LogLine) × Reads text (Ok line) × (heard : HeldState)
-    × Spills heard old.written said new.held new.written × (new ≡ counted line new.held new.written old))
+    ((line : LogLine) × Reads text (Ok line) × (heard : FibreState)
+    × HearsLine old.frames old.mask text line (times_after line old.times) (falls line old.times) old.fibre heard
+    × Spills heard.held old.written said new.fibre.held new.written
+    × (new ≡ counted line (record { ports = heard.ports; held = new.fibre.held }) new.written old))
     ⊎ (IsUnread text × (said ≡ []) × (new ≡ ended_by NotALine old))
 
 -- by what ended it before: nothing is looked at any more; a line that is too long ends it

@@ -1,12 +1,14 @@
 -- What is heard of all ports (this profile's own rule).
-use Rattle.std.specs.Prelude.{◌≡◌, ℕ, Bool, true, false, List, None, nat_lt, length, map, slice_index_or, slice_set}
+use Rattle.std.specs.Prelude.{◌≡◌, ℕ, Bool, true, false, List, None, nat_lt, length, map, replicate, slice_index_or, slice_set}
+use Rattle.gp_machine.specs.Config.{max_ports}
 use Rattle.gp_log.specs.declared.line.LogLine.{LogLine}
 use Rattle.gp_log.specs.declared.line.LogLine.TheVariants as line
+use Rattle.gp_ploam.specs.declared.check.Mask.{Mask}
+use Rattle.gp_times.specs.declared.frames.Frames.{Frames}
 use Rattle.gp_times.specs.Times.{TimesState, time_of}
 use Rattle.gp_waves.specs.declared.hearing.Waves.{Waves}
-use Rattle.gp_waves.specs.declared.options.WavesOptions.{WavesOptions}
 use Rattle.gp_waves.specs.declared.port.Scope.{Scope}
-use Rattle.gp_waves.specs.Held.{HeldState}
+use Rattle.gp_waves.specs.Held.{HeldState, nothing_held}
 use Rattle.gp_waves.specs.Pulses.{no_pulses}
 use Rattle.gp_waves.specs.Port.{HearsLog, HearsTrace, PortHeld, PortVars, vars_of}
 
@@ -22,9 +24,12 @@ fibre_of waves = record { ports = map vars_of waves.ports.items; held = waves.he
 abbrev pub no_vars : PortVars
 no_vars = record { pulses = no_pulses; time = 0; level = false; asked = None }
 
+abbrev pub no_fibre : FibreState
+no_fibre = record { ports = replicate max_ports no_vars; held = nothing_held }
+
 -- what of a port is dumped
-abbrev pub scope_of : WavesOptions → ℕ → Scope
-scope_of options number = record { port = number; frames = options.frames; mask = options.mask }
+abbrev pub scope_of : Frames → Mask → ℕ → Scope
+scope_of frames mask number = record { port = number; frames = frames; mask = mask }
 
 -- something is heard at this port, if there is one
 pub record AtPort (number : ℕ) (does : PortHeld → PortHeld → Type 0) (old new : FibreState) : Type 0 where
@@ -39,9 +44,9 @@ LogsUnless true number does old new = new ≡ old
 LogsUnless false number does old new = AtPort number does old new
 
 -- a line is heard, which these times have heard
-abbrev pub HearsLine : WavesOptions → List ℕ → LogLine → TimesState → Bool → FibreState → FibreState → Type 0
-HearsLine options text line.Remark times falls old new = new ≡ old
-HearsLine options text (line.Log number time said) times falls old new =
-    LogsUnless falls number (HearsLog (scope_of options number) (time_of times number).time said) old new
-HearsLine options text (line.Trace number is_frame first second) times falls old new =
-    AtPort number (HearsTrace (scope_of options number) (time_of times number).time text is_frame first second) old new
+abbrev pub HearsLine : Frames → Mask → List ℕ → LogLine → TimesState → Bool → FibreState → FibreState → Type 0
+HearsLine frames mask text line.Remark times falls old new = new ≡ old
+HearsLine frames mask text (line.Log number time said) times falls old new =
+    LogsUnless falls number (HearsLog (scope_of frames mask number) (time_of times number).time said) old new
+HearsLine frames mask text (line.Trace number is_frame first second) times falls old new =
+    AtPort number (HearsTrace (scope_of frames mask number) (time_of times number).time text is_frame first second) old new

@@ -22,12 +22,12 @@ use Rattle.gp_waves.specs.Dumping.{Dumping, WavesState, opened, whole_lines}
 use Rattle.gp_waves.specs.Writing.{IsDump, Rests, Written}
 
 -- the dump of some lines, in which so many changes stand at a later time than theirs
-pub record IsDumpOf (mask : Mask) (lines : List (Option (List ℕ))) (dump : List ℕ) (late : ℕ) : Type 0 where
+pub record IsDumpOf (frames : Frames) (mask : Mask) (lines : List (Option (List ℕ))) (dump : List ℕ) (late : ℕ) : Type 0 where
   pub whole : IsDump dump
   -- what is written while lines come
   pub first : List ℕ
   pub heard : WavesState
-  pub lead : DoesAll Dumping (opened mask) lines first heard
+  pub lead : DoesAll Dumping (opened frames mask) lines first heard
   -- what is written behind them
   pub rest : List ℕ
   pub end : Written
@@ -36,10 +36,10 @@ pub record IsDumpOf (mask : Mask) (lines : List (Option (List ℕ))) (dump : Lis
   pub count : late ≡ end.late
 
 -- the writer got all of the dump of these lines, and keeps nothing back
-pub record GetsDump {W : Type 0} (mask : Mask) (lines : List (Option (List ℕ))) (before after : SinkState W)
+pub record GetsDump {W : Type 0} (frames : Frames) (mask : Mask) (lines : List (Option (List ℕ))) (before after : SinkState W)
     (late : ℕ) : Type 0 where
   pub dump : List ℕ
-  pub whole : IsDumpOf mask lines dump late
+  pub whole : IsDumpOf frames mask lines dump late
   pub written : Appends before.held after.held (before.gathered ++ dump)
   pub kept : KeepsNothing after
 
@@ -53,7 +53,7 @@ pub record IsDumped {R W : Type 0} (frames : Frames) (mask : Mask) (from to : So
   pub outside : IsWhere frames (lines_of text) sum.outside
   pub fallen : HaveFallen (lines_of text) sum.fallen
   pub codes : HaveCodes mask (lines_of text) sum.codes
-  pub dumped : GetsDump mask (map (handed longest_line) (lines_of text)) before after sum.late
+  pub dumped : GetsDump frames mask (map (handed longest_line) (lines_of text)) before after sum.late
 
 -- why a text is no line of a trace or a log
 abbrev pub IsNone : NoLine → List ℕ → Type 0
@@ -61,7 +61,7 @@ IsNone NotALine text = IsUnread text
 IsNone TooLong text = longest_line < length text
 
 -- the lines before this one are read, this one is not, and the writer got the dump of the lines before it
-pub record IsRefused {R W : Type 0} (mask : Mask) (from to : SourceState R) (before after : SinkState W) (line : ℕ) (why : NoLine)
+pub record IsRefused {R W : Type 0} (frames : Frames) (mask : Mask) (from to : SourceState R) (before after : SinkState W) (line : ℕ) (why : NoLine)
     : Type 0 where
   -- what was read
   pub bytes : List ℕ
@@ -75,15 +75,15 @@ pub record IsRefused {R W : Type 0} (mask : Mask) (from to : SourceState R) (bef
   pub number : length first + 1 ≡ line
   pub none : IsNone why text
   pub late : ℕ
-  pub dumped : GetsDump mask (whole_lines first) before after late
+  pub dumped : GetsDump frames mask (whole_lines first) before after late
 
 -- the input was not read to its end, and the writer got the dump of the lines that came
-pub record IsUnfinished {R W : Type 0} (mask : Mask) (from to : SourceState R) (before after : SinkState W)
+pub record IsUnfinished {R W : Type 0} (frames : Frames) (mask : Mask) (from to : SourceState R) (before after : SinkState W)
     : Type 0 where
   pub bytes : List ℕ
   pub came : Consumes from.remaining to.remaining bytes
   pub late : ℕ
-  pub dumped : GetsDump mask (map (handed longest_line) (ended_lines bytes)) before after late
+  pub dumped : GetsDump frames mask (map (handed longest_line) (ended_lines bytes)) before after late
   pub failed : (to.failed ≡ true) ⊎ (to.left ≡ 0)
 
 -- of what was handed in before, and of a dump, the writer got a prefix, and nothing else
@@ -102,11 +102,11 @@ pub record IsBegun {R W : Type 0} (from to : SourceState R) (before after : Sink
 abbrev pub DumpsWaves : {R W : Type 0} → Frames → Mask → SourceState R → SourceState R → SinkState W → SinkState W
     → Result WavesSum ExplainFault → Type 0
 DumpsWaves frames mask from to before after (Ok sum) = IsDumped frames mask from to before after sum
-DumpsWaves frames mask from to before after (Err (Refused line why)) = IsRefused mask from to before after line why
-DumpsWaves frames mask from to before after (Err (Lines faults.Read)) = IsUnfinished mask from to before after
+DumpsWaves frames mask from to before after (Err (Refused line why)) = IsRefused frames mask from to before after line why
+DumpsWaves frames mask from to before after (Err (Lines faults.Read)) = IsUnfinished frames mask from to before after
 DumpsWaves frames mask from to before after (Err (Lines (faults.Line fault))) =
     (IsBegun from to before after ⊎ ((fault ≡ OutOfMemory) × (to ≡ from) × (after ≡ before)))
-    × (fault ≡ Full → ServesFull Dumping longest_line from to (opened mask))
+    × (fault ≡ Full → ServesFull Dumping longest_line from to (opened frames mask))
 
 -- the rest of a dump behind what is written
 pub record IsRest (old new : WavesState) (text : List ℕ) : Type 0 where

@@ -7,7 +7,6 @@ use crate::options::WavesOptions;
 use crate::writing::Writing;
 use gp_explain::NoLine;
 use gp_finding::Codes;
-use gp_ploam::Mask;
 use gp_times::PortTimes;
 use std::alloc::{AllocError, Global};
 use std::marker::Model;
@@ -20,7 +19,6 @@ use std::marker::Model;
 pub struct Dumper {
     pub(crate) waves: Waves,
     pub(crate) times: PortTimes,
-    pub(crate) mask: Mask,
     pub(crate) codes: Codes,
     pub(crate) writing: Writing,
     pub(crate) buffer: Vec<u8>,
@@ -31,6 +29,7 @@ pub struct Dumper {
 
 impl Model for Dumper {
     ghost use Rattle.gp_waves.specs.Dumping.{WavesState};
+    ghost use Rattle.gp_waves.specs.Hearing.{fibre_of};
 
     ghost Value = { WavesState };
 
@@ -39,9 +38,10 @@ impl Model for Dumper {
       heard = s.heard;
       ended = s.ended;
       times = s.times;
-      mask = s.mask;
+      frames = s.waves.options.frames;
+      mask = s.waves.options.mask;
       codes = s.codes;
-      held = s.waves.held;
+      fibre = fibre_of s.waves;
       written = s.writing;
     } };
 }
@@ -49,12 +49,11 @@ impl Model for Dumper {
 impl Dumper {
     /// Makes one to which no line came. Fails only where there is no memory.
     pub fn begin(alloc: Global, options: &WavesOptions) -> Result<Dumper, AllocError>
-        ensures { IfOk result (λ dumper. dumper ≡ opened options.now.mask) }
+        ensures { IfOk result (λ dumper. dumper ≡ opened options.now.frames options.now.mask) }
     {
         Ok(Dumper {
             waves: Waves::begin(alloc, options)?,
             times: PortTimes::begin(),
-            mask: options.mask,
             codes: Codes::none(),
             writing: Writing::new(),
             buffer: Vec::new(alloc),

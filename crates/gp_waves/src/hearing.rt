@@ -1,5 +1,6 @@
 //! What is heard of all ports, and the changes that are held back.
-ghost use Rattle.std.specs.Prelude.{◌≡◌, IfOk, IfNone, IfSome, None, OnOk};
+ghost use Rattle.std.specs.Prelude.{◌≡◌, IfOk, IfNone, IfSome, None, OnOk, map, replicate};
+ghost use Rattle.gp_machine.specs.Config.{max_ports};
 ghost use Rattle.gp_waves.specs.Port as ports;
 ghost use Rattle.gp_waves.specs.Hearing as heard;
 ghost use Rattle.gp_waves.specs.Held as spec;
@@ -10,6 +11,7 @@ use crate::options::WavesOptions;
 use crate::port::{Port, Scope};
 use gp_dump::PORTS;
 use gp_log::{LogLine, Said};
+use gp_ploam::Mask;
 use gp_times::PortTimes;
 use std::alloc::{AllocError, Global};
 
@@ -23,9 +25,11 @@ pub(crate) struct Waves {
 }
 
 /// Opens each port: nothing was heard.
-fn open(alloc: Global, options: &WavesOptions) -> Result<Vec<Port>, AllocError> {
+fn open(alloc: Global, options: &WavesOptions) -> Result<Vec<Port>, AllocError>
+    ensures { IfOk result (λ opened. map ports.vars_of opened.items ≡ replicate max_ports heard.no_vars) }
+{
     let mut ports = Vec::with_capacity(alloc, PORTS)?;
-    for _ in 0..PORTS {
+    'ports: for _count in 0..PORTS {
         ports.push(Port::begin(alloc, options.midway, options.frames)?)?;
     }
     Ok(ports)
@@ -33,7 +37,7 @@ fn open(alloc: Global, options: &WavesOptions) -> Result<Vec<Port>, AllocError> 
 
 /// Gives what of a port is dumped.
 fn scope_of(options: &WavesOptions, port: u8) -> Scope
-    ensures { result ≡ heard.scope_of options.now port }
+    ensures { result ≡ heard.scope_of options.now.frames options.now.mask port }
 {
     Scope {
         port,
@@ -43,9 +47,17 @@ fn scope_of(options: &WavesOptions, port: u8) -> Scope
 }
 
 impl Waves {
+    /// The mask of the codes.
+    pub(crate) fn mask(&self) -> Mask
+        ensures { result ≡ self.now.options.mask }
+    {
+        self.options.mask
+    }
+
     /// Nothing was heard.
     pub(crate) fn begin(alloc: Global, options: &WavesOptions) -> Result<Waves, AllocError>
-        ensures { IfOk result (λ waves. waves.held ≡ spec.nothing_held) }
+        ensures options { IfOk result (λ waves. waves.options ≡ options.now) }
+        ensures held { IfOk result (λ waves. heard.fibre_of waves ≡ heard.no_fibre) }
     {
         Ok(Waves {
             options: *options,
@@ -62,8 +74,9 @@ impl Waves {
         falls: bool,
         said: &Said,
     ) -> Result<(), WavesFault>
-        ensures { OnOk result (heard.LogsUnless falls number
-            (ports.HearsLog (heard.scope_of self.old.options number) time said.now)
+        ensures options { self.new.options ≡ self.old.options }
+        ensures heard { OnOk result (heard.LogsUnless falls number
+            (ports.HearsLog (heard.scope_of self.old.options.frames self.old.options.mask number) time said.now)
             (heard.fibre_of self.old) (heard.fibre_of self.new)) }
     {
         if falls {
@@ -86,8 +99,9 @@ impl Waves {
         first: &Option<Said>,
         second: &Option<Said>,
     ) -> Result<(), WavesFault>
-        ensures { OnOk result (heard.AtPort number
-            (ports.HearsTrace (heard.scope_of self.old.options number) time text.now is_frame first.now second.now)
+        ensures options { self.new.options ≡ self.old.options }
+        ensures heard { OnOk result (heard.AtPort number
+            (ports.HearsTrace (heard.scope_of self.old.options.frames self.old.options.mask number) time text.now is_frame first.now second.now)
             (heard.fibre_of self.old) (heard.fibre_of self.new)) }
     {
         let scope = scope_of(&self.options, number);
@@ -108,7 +122,8 @@ impl Waves {
         times: &PortTimes,
         falls: bool,
     ) -> Result<(), WavesFault>
-        ensures { OnOk result (heard.HearsLine self.old.options text.now read.now times.now falls
+        ensures options { self.new.options ≡ self.old.options }
+        ensures heard { OnOk result (heard.HearsLine self.old.options.frames self.old.options.mask text.now read.now times.now falls
             (heard.fibre_of self.old) (heard.fibre_of self.new)) }
     {
         match read {
@@ -167,6 +182,8 @@ impl Waves {
         ensures taken { IfSome result (λ due. spec.Takes self.old.held due self.new.held) }
         ensures none { IfNone result (spec.first_port self.old.held.queues ≡ None) }
         ensures still { IfNone result (self.new.held ≡ self.old.held) }
+        ensures options { self.new.options ≡ self.old.options }
+        ensures ports { self.new.ports.items ≡ self.old.ports.items }
     {
         self.held.take_first()
     }

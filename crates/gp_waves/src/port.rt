@@ -1,6 +1,7 @@
 //! What is kept of one port, and which changes something that is heard there makes.
 
-ghost use Rattle.std.specs.Prelude.{◌≡◌, OnOk};
+ghost use Rattle.std.specs.Prelude.{◌≡◌, IfOk, OnOk};
+ghost use Rattle.gp_waves.specs.Hearing.{no_vars};
 ghost use Rattle.gp_watch.specs.Heard.{heard_of};
 ghost use Rattle.gp_tally.specs.Told.{kind_told};
 ghost use Rattle.gp_lines.specs.Parts.{parts_of};
@@ -130,7 +131,9 @@ impl Scope {
 
 impl Port {
     /// Nothing was heard. Where the first frame is dumped, nothing of its units was left out before.
-    pub(crate) fn begin(alloc: Global, midway: bool, frames: Frames) -> Result<Port, AllocError> {
+    pub(crate) fn begin(alloc: Global, midway: bool, frames: Frames) -> Result<Port, AllocError>
+        ensures { IfOk result (λ port. spec.vars_of port ≡ no_vars) }
+    {
         Ok(Port {
             watch: PortWatch::begin(alloc, midway)?,
             lanes: Lanes::begin(alloc),

@@ -31,7 +31,7 @@ impl LineWork for Dumper {
             return Ok(());
         };
         let falls = self.times.hear(&read);
-        self.codes.hear(self.mask, &read);
+        self.codes.hear(self.waves.mask(), &read);
         self.waves.hear(text, &read, &self.times, falls)?;
         self.writing.spill(&mut self.buffer, &mut self.waves)?;
         sink.put(self.buffer.as_slice())?;

@@ -93,7 +93,9 @@ impl Writing {
     /// Writes the changes that are due first, until no more are held back than may be, behind the declarations of all
     /// that there can be. Full where the variable of one is not declared.
     fn drain(&mut self, out: &mut Vec<u8>, waves: &mut Waves) -> Result<(), WavesFault>
-        ensures { OnOk result (Drains waves.old.held self.old out.old.items waves.new.held self.new out.new.items) }
+        ensures options { OnOk result (waves.new.options ≡ waves.old.options) }
+        ensures ports { OnOk result (waves.new.ports.items ≡ waves.old.ports.items) }
+        ensures drained { OnOk result (Drains waves.old.held self.old out.old.items waves.new.held self.new out.new.items) }
     {
         'changes: for _count in 0..u64::MAX {
             if !waves.is_full() {
@@ -128,7 +130,9 @@ impl Writing {
     /// Writes the changes that can't be held back any more into the buffer, in the place of what it held. Since it
     /// isn't known what comes, all that there can be is declared then.
     pub(crate) fn spill(&mut self, out: &mut Vec<u8>, waves: &mut Waves) -> Result<(), WavesFault>
-        ensures { OnOk result (spec.Spills waves.old.held self.old out.new.items waves.new.held self.new) }
+        ensures options { OnOk result (waves.new.options ≡ waves.old.options) }
+        ensures ports { OnOk result (waves.new.ports.items ≡ waves.old.ports.items) }
+        ensures spilled { OnOk result (spec.Spills waves.old.held self.old out.new.items waves.new.held self.new) }
     {
         out.clear();
         self.drain(out, waves)

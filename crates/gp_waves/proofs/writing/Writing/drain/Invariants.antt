@@ -9,4 +9,6 @@ invariant-changes l = record {
   dues : List Due;
   drained : Drained is_full l.fn.waves.held l.fn.self l.fn.out.items dues l.waves.held l.self l.out.items;
   many : length dues ≡ l._count;
+  options : l.waves.options ≡ l.fn.waves.options;
+  ports : l.waves.ports.items ≡ l.fn.waves.ports.items;
 }
