@@ -2,6 +2,7 @@
 use line_columns::{Columns, Layout, Separator, TimeUnit, plain_of};
 use std::process::Abort;
 use std::rt::HostRuntime;
+use std::test::Fail;
 
 fn columns(separator: Separator) -> Columns {
     Columns {
@@ -24,15 +25,14 @@ fn is_read<R: AllocGlobal + Abort>(rt: &R, layout: &Layout, line: &str, plain: &
 }
 
 #[test]
-fn columns_are_read(rt: HostRuntime) {
+fn columns_are_read(rt: HostRuntime) -> Result<(), Fail> {
     let heading = b"No,Time,Len,Dir,Info,Code,Delay\r";
     let layout = Layout::columned(
         rt.alloc(),
         TimeUnit::Nanoseconds,
         columns(Separator::Comma),
         heading,
-    )
-    .unwrap();
+    )?;
     is_read(&rt, &layout, "No,Time,Len,Dir,Info,Code,Delay", "");
     is_read(
         &rt,
@@ -72,4 +72,5 @@ fn columns_are_read(rt: HostRuntime) {
     is_read(&rt, &layout, "3, 1.5ms us AA", "3, 1.5ms us AA");
     is_read(&rt, &layout, "1 us AA", "1s us AA");
     is_read(&rt, &layout, "0 1 frame -> ok", "0 1 frame -> ok");
+    Ok(())
 }
