@@ -15,8 +15,8 @@ use Rattle.gp_waves.specs.Hearing.{FibreState, HearsLine, no_fibre}
 use Rattle.gp_waves.specs.Writing.{Spills, Written, unwritten}
 
 -- how many lines came, whether one of them says anything, why the last of them ended it, if it did, the times of the
--- ports, with how many lines fell, the frames that are dumped, the mask of the codes, how many codes came, with how many of them are garbled, what is
--- kept of the ports with the changes that are held back, and what is written
+-- ports, with how many lines fell, the frames that are dumped, the mask of the codes, how many codes came, with how
+-- many of them are garbled, what is kept of the ports with the changes that are held back, and what is written
 pub record WavesState : Type 0 where
   pub lines : ℕ
   pub heard : Bool
@@ -42,7 +42,7 @@ opened frames mask = record {
   written = unwritten;
 }
 
--- one line more came, which says this, and these changes are held back and this is written by now
+-- one line more came, which says this; this is kept of the ports, and this is written by now
 abbrev pub counted : LogLine → FibreState → Written → WavesState → WavesState
 counted line fibre written state =
     record state {

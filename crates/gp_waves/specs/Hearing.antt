@@ -49,4 +49,5 @@ HearsLine frames mask text line.Remark times falls old new = new ≡ old
 HearsLine frames mask text (line.Log number time said) times falls old new =
     LogsUnless falls number (HearsLog (scope_of frames mask number) (time_of times number).time said) old new
 HearsLine frames mask text (line.Trace number is_frame first second) times falls old new =
-    AtPort number (HearsTrace (scope_of frames mask number) (time_of times number).time text is_frame first second) old new
+    AtPort number (HearsTrace (scope_of frames mask number)
+    (time_of times number).time text is_frame first second) old new

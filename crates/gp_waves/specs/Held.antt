@@ -41,7 +41,10 @@ one_more count = min (count + 1) most_counted
 abbrev pub kept : ℕ → HeldChange → HeldState → HeldState
 kept port change held =
     if nat_lt port (length held.queues)
-    then record { queues = slice_set held.queues port (queued change (queue_at held.queues port)); count = one_more held.count }
+    then record {
+      queues = slice_set held.queues port (queued change (queue_at held.queues port));
+      count = one_more held.count;
+    }
     else held
 
 -- how many changes are held back at most

@@ -22,7 +22,8 @@ use Rattle.gp_waves.specs.Dumping.{Dumping, WavesState, opened, whole_lines}
 use Rattle.gp_waves.specs.Writing.{IsDump, Rests, Written}
 
 -- the dump of some lines, in which so many changes stand at a later time than theirs
-pub record IsDumpOf (frames : Frames) (mask : Mask) (lines : List (Option (List ℕ))) (dump : List ℕ) (late : ℕ) : Type 0 where
+pub record IsDumpOf (frames : Frames) (mask : Mask) (lines : List (Option (List ℕ))) (dump : List ℕ)
+    (late : ℕ) : Type 0 where
   pub whole : IsDump dump
   -- what is written while lines come
   pub first : List ℕ
@@ -36,7 +37,8 @@ pub record IsDumpOf (frames : Frames) (mask : Mask) (lines : List (Option (List 
   pub count : late ≡ end.late
 
 -- the writer got all of the dump of these lines, and keeps nothing back
-pub record GetsDump {W : Type 0} (frames : Frames) (mask : Mask) (lines : List (Option (List ℕ))) (before after : SinkState W)
+pub record GetsDump {W : Type 0} (frames : Frames) (mask : Mask) (lines : List (Option (List ℕ)))
+    (before after : SinkState W)
     (late : ℕ) : Type 0 where
   pub dump : List ℕ
   pub whole : IsDumpOf frames mask lines dump late
@@ -44,7 +46,8 @@ pub record GetsDump {W : Type 0} (frames : Frames) (mask : Mask) (lines : List (
   pub kept : KeepsNothing after
 
 -- the whole input was read, each of its lines is read, and the writer got one dump
-pub record IsDumped {R W : Type 0} (frames : Frames) (mask : Mask) (from to : SourceState R) (before after : SinkState W)
+pub record IsDumped {R W : Type 0} (frames : Frames) (mask : Mask) (from to : SourceState R)
+    (before after : SinkState W)
     (sum : WavesSum) : Type 0 where
   pub text : List ℕ
   pub read : ReadsWhole from to text
@@ -61,7 +64,8 @@ IsNone NotALine text = IsUnread text
 IsNone TooLong text = longest_line < length text
 
 -- the lines before this one are read, this one is not, and the writer got the dump of the lines before it
-pub record IsRefused {R W : Type 0} (frames : Frames) (mask : Mask) (from to : SourceState R) (before after : SinkState W) (line : ℕ) (why : NoLine)
+pub record IsRefused {R W : Type 0} (frames : Frames) (mask : Mask) (from to : SourceState R)
+    (before after : SinkState W) (line : ℕ) (why : NoLine)
     : Type 0 where
   -- what was read
   pub bytes : List ℕ
@@ -78,7 +82,8 @@ pub record IsRefused {R W : Type 0} (frames : Frames) (mask : Mask) (from to : S
   pub dumped : GetsDump frames mask (whole_lines first) before after late
 
 -- the input was not read to its end, and the writer got the dump of the lines that came
-pub record IsUnfinished {R W : Type 0} (frames : Frames) (mask : Mask) (from to : SourceState R) (before after : SinkState W)
+pub record IsUnfinished {R W : Type 0} (frames : Frames) (mask : Mask) (from to : SourceState R)
+    (before after : SinkState W)
     : Type 0 where
   pub bytes : List ℕ
   pub came : Consumes from.remaining to.remaining bytes
@@ -102,7 +107,8 @@ pub record IsBegun {R W : Type 0} (from to : SourceState R) (before after : Sink
 abbrev pub DumpsWaves : {R W : Type 0} → Frames → Mask → SourceState R → SourceState R → SinkState W → SinkState W
     → Result WavesSum ExplainFault → Type 0
 DumpsWaves frames mask from to before after (Ok sum) = IsDumped frames mask from to before after sum
-DumpsWaves frames mask from to before after (Err (Refused line why)) = IsRefused frames mask from to before after line why
+DumpsWaves frames mask from to before after (Err (Refused line why)) =
+    IsRefused frames mask from to before after line why
 DumpsWaves frames mask from to before after (Err (Lines faults.Read)) = IsUnfinished frames mask from to before after
 DumpsWaves frames mask from to before after (Err (Lines (faults.Line fault))) =
     (IsBegun from to before after ⊎ ((fault ≡ OutOfMemory) × (to ≡ from) × (after ≡ before)))

@@ -1,5 +1,5 @@
--- What is kept of one port, and which changes something that is heard makes (this profile's own rule). Which changes its
--- units make is left open.
+-- What is kept of one port, and which changes something that is heard makes (this profile's own rule). Which changes
+-- its units make is left open.
 use Rattle.std.specs.Prelude.{◌≡◌, ℕ, zero, suc, Bool, true, false, not, ◌&&◌, List, [], ◌∷◌, Option, None, Some, if◌then◌else◌, nat_eq, nat_lt, nat_le}
 use Rattle.std.specs.List.{All}
 use Rattle.gp_ploam.specs.declared.message.Up.{Up}
@@ -113,7 +113,8 @@ last_time = 18446744073709551615
 -- the port comes to this time, and what ends before it has ended; what is known of its units may be told before
 abbrev pub Advances : Scope → ℕ → PortHeld → PortHeld → Type 0
 Advances scope time old new =
-    (shown : HeldState) × KeepsUnits scope.port old.held shown × (new ≡ ended scope time (record { vars = record old.vars { time = time }; held = shown }))
+    (shown : HeldState) × KeepsUnits scope.port old.held shown
+    × (new ≡ ended scope time (record { vars = record old.vars { time = time }; held = shown }))
 
 -- what a grant asks for, and whom
 abbrev pub kind_of : Grant → WindowKind
@@ -220,7 +221,8 @@ alarm_told (Some kind) scope old =
 abbrev pub TracesUnless : Bool → Scope → List ℕ → Bool → Option Said → Option Said → PortHeld → PortHeld → Type 0
 TracesUnless true scope text is_frame first second old new = new ≡ old
 TracesUnless false scope text is_frame first second old new =
-    (next : PortHeld) × HearsMaybe scope first (alarm_told (kind_told (parts_of text)) scope (frame_told is_frame scope old)) next
+    (next : PortHeld) × HearsMaybe scope first
+    (alarm_told (kind_told (parts_of text)) scope (frame_told is_frame scope old)) next
     × HearsMaybe scope second next new
 
 abbrev pub HearsTrace : Scope → ℕ → List ℕ → Bool → Option Said → Option Said → PortHeld → PortHeld → Type 0

@@ -8,8 +8,8 @@ use Rattle.gp_waves.specs.declared.held.Due.{Due}
 pub use Rattle.gp_waves.specs.Ports.{all_ports}
 use Rattle.gp_waves.specs.Held.{HeldState, TakesEach, first_port, is_full, most_counted, one_more}
 
--- whether the declarations are written, what stands behind them, the latest time of a change, and how many changes stand
--- at a later time than theirs
+-- whether the declarations are written, what stands behind them, the latest time of a change, and how many changes
+-- stand at a later time than theirs
 pub record Written : Type 0 where
   pub begun : Bool
   pub dump : DumpState

@@ -13,8 +13,8 @@ use std::marker::Model;
 
 /// Is given the lines of a trace or a log, one after another. The first line that is none ends it. Contracts see how
 /// many lines came, whether one of them says anything, what ended it, the times of the ports, with how many lines fell,
-/// the mask of the codes, how many codes came, with how many of them are garbled, the changes that are held back, and
-/// what is written of the dump.
+/// the frames that are dumped, the mask of the codes, how many codes came, with how many of them are garbled, what is
+/// kept of the ports with the changes that are held back, and what is written of the dump.
 #[derive(Drop)]
 pub struct Dumper {
     pub(crate) waves: Waves,

@@ -101,7 +101,8 @@ impl Waves {
     ) -> Result<(), WavesFault>
         ensures options { self.new.options ≡ self.old.options }
         ensures heard { OnOk result (heard.AtPort number
-            (ports.HearsTrace (heard.scope_of self.old.options.frames self.old.options.mask number) time text.now is_frame first.now second.now)
+            (ports.HearsTrace (heard.scope_of self.old.options.frames self.old.options.mask number)
+            time text.now is_frame first.now second.now)
             (heard.fibre_of self.old) (heard.fibre_of self.new)) }
     {
         let scope = scope_of(&self.options, number);
@@ -123,7 +124,8 @@ impl Waves {
         falls: bool,
     ) -> Result<(), WavesFault>
         ensures options { self.new.options ≡ self.old.options }
-        ensures heard { OnOk result (heard.HearsLine self.old.options.frames self.old.options.mask text.now read.now times.now falls
+        ensures heard { OnOk result (heard.HearsLine self.old.options.frames self.old.options.mask
+            text.now read.now times.now falls
             (heard.fibre_of self.old) (heard.fibre_of self.new)) }
     {
         match read {

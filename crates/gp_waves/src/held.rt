@@ -36,8 +36,8 @@ pub(crate) struct Due {
     pub(crate) change: Change,
 }
 
-/// The changes of a port that are held back, and how many lanes have to be declared for all that were ever held back, if
-/// any was.
+/// The changes of a port that are held back, and how many lanes have to be declared for all that were ever held back,
+/// if any was.
 #[derive(Drop)]
 pub(crate) struct Queue {
     changes: VecDeque<HeldChange>,

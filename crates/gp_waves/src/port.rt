@@ -173,7 +173,8 @@ impl Port {
 
     /// Ends the pulses that end before this time.
     fn end_pulses(&mut self, held: &mut Held, scope: &Scope, time: u64) -> Result<(), AllocError>
-        ensures ends { OnOk result (spec.both self.new held.new ≡ spec.ended scope.now time (spec.both self.old held.old)) }
+        ensures ends { OnOk result (spec.both self.new held.new
+            ≡ spec.ended scope.now time (spec.both self.old held.old)) }
     {
         'ends: for _count in 0..MOST_ENDS {
             let Some((pulse, end)) = self.pulses.take_past(time) else {
@@ -186,7 +187,8 @@ impl Port {
 
     /// Comes to the time of a line that tells of it.
     fn advance(&mut self, held: &mut Held, scope: &Scope, time: u64) -> Result<(), WavesFault>
-        ensures { OnOk result (spec.Advances scope.now time (spec.both self.old held.old) (spec.both self.new held.new)) }
+        ensures { OnOk result (spec.Advances scope.now time (spec.both self.old held.old)
+            (spec.both self.new held.new)) }
     {
         self.is_told = true;
         self.time = time;
@@ -202,7 +204,8 @@ impl Port {
         scope: &Scope,
         code: &[u8; 13],
     ) -> Result<(), AllocError>
-        ensures { OnOk result (spec.both self.new held.new ≡ spec.sent_told scope.now code.now (spec.both self.old held.old)) }
+        ensures { OnOk result (spec.both self.new held.new
+            ≡ spec.sent_told scope.now code.now (spec.both self.old held.old)) }
     {
         self.pulses.begin(Pulse::Sent, self.time);
         scope.tell(held, self.time, PortChange::Sent(Some(*code)))
@@ -216,7 +219,8 @@ impl Port {
         code: &[u8; 13],
         delay: Option<u32>,
     ) -> Result<(), AllocError>
-        ensures { OnOk result (spec.both self.new held.new ≡ spec.burst_told scope.now code.now delay (spec.both self.old held.old)) }
+        ensures { OnOk result (spec.both self.new held.new
+            ≡ spec.burst_told scope.now code.now delay (spec.both self.old held.old)) }
     {
         self.pulses.begin(Pulse::Burst, self.time);
         scope.tell(held, self.time, PortChange::Burst(Some(*code)))?;
@@ -225,7 +229,8 @@ impl Port {
 
     /// Tells a grant, and the window that opens.
     fn tell_grant(&mut self, held: &mut Held, scope: &Scope, grant: Grant) -> Result<(), AllocError>
-        ensures { OnOk result (spec.both self.new held.new ≡ spec.grant_told scope.now grant (spec.both self.old held.old)) }
+        ensures { OnOk result (spec.both self.new held.new
+            ≡ spec.grant_told scope.now grant (spec.both self.old held.old)) }
     {
         let (kind, asked) = kind_of(grant);
         self.asked = asked;
@@ -238,7 +243,8 @@ impl Port {
 
     /// Tells what is said.
     fn tell_said(&mut self, held: &mut Held, scope: &Scope, said: &Said) -> Result<(), AllocError>
-        ensures { OnOk result (spec.both self.new held.new ≡ spec.said_told scope.now said.now (spec.both self.old held.old)) }
+        ensures { OnOk result (spec.both self.new held.new
+            ≡ spec.said_told scope.now said.now (spec.both self.old held.old)) }
     {
         match said {
             Said::Down(code) => self.tell_sent(held, scope, code),
@@ -351,7 +357,8 @@ impl Port {
 
     /// Hears what is said by what is known before it, and tells it.
     fn hear(&mut self, held: &mut Held, scope: &Scope, said: &Said) -> Result<(), WavesFault>
-        ensures { OnOk result (spec.Hears scope.now said.now (spec.both self.old held.old) (spec.both self.new held.new)) }
+        ensures { OnOk result (spec.Hears scope.now said.now (spec.both self.old held.old)
+            (spec.both self.new held.new)) }
     {
         let heard = heard_in(scope.mask, said);
         self.tell_said(held, scope, said)?;
@@ -368,7 +375,8 @@ impl Port {
         scope: &Scope,
         said: &Option<Said>,
     ) -> Result<(), WavesFault>
-        ensures { OnOk result (spec.HearsMaybe scope.now said.now (spec.both self.old held.old) (spec.both self.new held.new)) }
+        ensures { OnOk result (spec.HearsMaybe scope.now said.now (spec.both self.old held.old)
+            (spec.both self.new held.new)) }
     {
         match said {
             Some(said) => self.hear(held, scope, said),
@@ -385,7 +393,8 @@ impl Port {
         time: u64,
         said: &Said,
     ) -> Result<(), WavesFault>
-        ensures { OnOk result (spec.HearsLog scope.now time said.now (spec.both self.old held.old) (spec.both self.new held.new)) }
+        ensures { OnOk result (spec.HearsLog scope.now time said.now (spec.both self.old held.old)
+            (spec.both self.new held.new)) }
     {
         self.advance(held, scope, time)?;
         if scope.frames.are_past(time) {
@@ -414,7 +423,8 @@ impl Port {
     /// Tells the alarm that a line of a trace tells, a frame's or a burst's, if it tells one: it stands to the end of
     /// that frame, or until another one comes.
     fn tell_alarm(&mut self, held: &mut Held, scope: &Scope, text: &[u8]) -> Result<(), AllocError>
-        ensures { OnOk result (spec.both self.new held.new ≡ spec.alarm_told (kind_told (parts_of text.now)) scope.now (spec.both self.old held.old)) }
+        ensures { OnOk result (spec.both self.new held.new
+            ≡ spec.alarm_told (kind_told (parts_of text.now)) scope.now (spec.both self.old held.old)) }
     {
         match kind_told(text) {
             Some(kind) => {
@@ -437,7 +447,8 @@ impl Port {
         first: &Option<Said>,
         second: &Option<Said>,
     ) -> Result<(), WavesFault>
-        ensures { OnOk result (spec.HearsTrace scope.now time text.now is_frame first.now second.now (spec.both self.old held.old) (spec.both self.new held.new)) }
+        ensures { OnOk result (spec.HearsTrace scope.now time text.now is_frame first.now second.now
+            (spec.both self.old held.old) (spec.both self.new held.new)) }
     {
         self.advance(held, scope, time)?;
         if scope.frames.are_past(time) {
@@ -451,7 +462,8 @@ impl Port {
 
     /// Ends what still stands, each at its time.
     pub(crate) fn finish(&mut self, held: &mut Held, scope: &Scope) -> Result<(), AllocError>
-        ensures { OnOk result (spec.both self.new held.new ≡ spec.ended scope.now spec.last_time (spec.both self.old held.old)) }
+        ensures { OnOk result (spec.both self.new held.new
+            ≡ spec.ended scope.now spec.last_time (spec.both self.old held.old)) }
     {
         self.end_pulses(held, scope, u64::MAX)
     }

@@ -37,8 +37,8 @@ pub struct WavesSum {
 /// dump declares the ports of which lines told, and as many lanes as they have units; else all that there can be.
 ///
 /// The first line that `gp_log::read_line` doesn't read ends it, behind the dump of the lines before it; so does a
-/// failed read. Full is answered only where a line is why: a count can't go on with it. Memory is flat: what is kept of at most 4,096 serial numbers a port, and the changes that are held
-/// back.
+/// failed read. Full is answered only where a line is why: a count can't go on with it. Memory is flat: what is kept of
+/// at most 4,096 serial numbers a port, and the changes that are held back.
 pub fn dump_waves<R: Read, W: Write>(
     alloc: Global,
     options: &WavesOptions,

@@ -95,7 +95,8 @@ impl Writing {
     fn drain(&mut self, out: &mut Vec<u8>, waves: &mut Waves) -> Result<(), WavesFault>
         ensures options { OnOk result (waves.new.options ≡ waves.old.options) }
         ensures ports { OnOk result (waves.new.ports.items ≡ waves.old.ports.items) }
-        ensures drained { OnOk result (Drains waves.old.held self.old out.old.items waves.new.held self.new out.new.items) }
+        ensures drained { OnOk result (Drains waves.old.held self.old out.old.items waves.new.held
+            self.new out.new.items) }
     {
         'changes: for _count in 0..u64::MAX {
             if !waves.is_full() {
