@@ -1,4 +1,4 @@
-"""Lines of text that ask for something, as `oltctl drive` reads them (docs/PROGRAM.md)."""
+"""Lines of text that ask for something, as `oltctl drive` reads them (`oltctl drive --help`)."""
 import ctypes as c
 import dataclasses
 import enum
