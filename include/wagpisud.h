@@ -380,8 +380,8 @@ uint32_t wp_close(wp_chassis *chassis);
 /* Reads the turn that a line of text asks for, without its line feed: `PORT EVENT` with an event as a trace tells it,
  * `PORT frame COUNT`, `PORT until GRANT`, `PORT until GRANT within COUNT`, `unit I light`, `unit I dark`,
  * `unit I show`, or `PORT say ..`, which is the event of a unit's burst without a mask: for a chassis that is masked
- * XOR its last octet with 85. `oltctl drive --help` has the grammar. Touches no chassis. Answers the first fault of the line:
- * WP_LINE_LONG, then WP_LINE_SPACE, then the first from the left of WP_LINE_WORD to WP_LINE_RANGE.
+ * XOR its last octet with 85. `oltctl drive --help` has the grammar. Touches no chassis. Answers the first fault of the
+ * line: WP_LINE_LONG, then WP_LINE_SPACE, then the first from the left of WP_LINE_WORD to WP_LINE_RANGE.
  *
  *     wp_turn((const uint8_t *)"0 search", 8, &asked); */
 uint32_t wp_turn(const uint8_t *line, size_t length, wp_asked *asked);
