@@ -1,2 +1,4 @@
 pub mod Searches
 pub mod Grants
+pub mod Sendings
+pub mod Sent
