@@ -1,5 +1,5 @@
--- How what was sent last about each ONU-ID's holder and delay, about all ONU-IDs and all serial numbers is kept, and how
--- often it was (this profile's own rule).
+-- How what was sent last about each ONU-ID's holder and delay, about all ONU-IDs and all serial numbers is kept, and
+-- how often it was (this profile's own rule).
 use Rattle.std.specs.Prelude.{◌≡◌, ℕ, ◌-◌, ◌^◌, ◌<◌, ◌==◌, nat_lt, Bool, true, List, refl, slice_index_or, if◌then◌else◌}
 use Rattle.std.specs.Coded.{Coded, code_by, coded×, coded_list}
 use Rattle.gp_ploam.specs.declared.message.Down.{Down}

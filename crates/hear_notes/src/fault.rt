@@ -10,8 +10,8 @@ pub enum NoteFault {
     /// Out of memory for a serial number that is new.
     #[error("out of memory")]
     OutOfMemory,
-    /// A serial number would be the 65,537th that answers a search, or there were 2^64 - 1 windows, or messages about one
-    /// thing.
+    /// A serial number would be the 65,537th that answers a search, or there were 2^64 - 1 windows, or messages about
+    /// one thing.
     #[error("too many serial numbers, windows or messages")]
     Full,
 }

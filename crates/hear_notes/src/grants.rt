@@ -134,7 +134,8 @@ impl GrantBook {
 
     /// Notes that a window is opened in this frame. Fails only where 2^64 - 1 were; nothing changes then.
     pub fn grant(&mut self, now: u64, grant: Grant) -> Result<(), NoteFault>
-        ensures notes { OnOk result (SameGrants (grants_of self.new) (units.grants_after now (grants_of self.old) grant)) }
+        ensures notes { OnOk result
+            (SameGrants (grants_of self.new) (units.grants_after now (grants_of self.old) grant)) }
         ensures room { IsOk result ↔ (let grants = grants_of self.old in grants.count < 2 ^ 64 - 1) }
         ensures same { OnErr result (self.new ≡ self.old) }
         ensures fails { IfErr result (λ fault. fault ≡ NoteFault.Full) }
@@ -211,8 +212,8 @@ impl GrantBook {
     }
 
     /// `twice`: it answers, and all windows of the last frames that ask it were answered. Not judged where no such
-    /// window is kept, where one of the last frames isn't kept any more, nor in the first frames of a log that may begin
-    /// in the middle, in the frame `begun`.
+    /// window is kept, where one of the last frames isn't kept any more, nor in the first frames of a log that may
+    /// begin in the middle, in the frame `begun`.
     pub fn twice(&self, grace: u32, begun: Option<u64>, now: u64, message: &Up) -> Verdict
         ensures { (settings : rules.Settings) → settings.grace ≡ grace
             → result ≡ units.twice settings (grants_of self.now) begun now message.now }

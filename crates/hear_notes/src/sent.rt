@@ -83,8 +83,10 @@ fn place_of(message: &Down) -> Place
 impl SentRow {
     /// The row once a message about the same thing is sent in this frame. Fails only where 2^64 - 1 were.
     fn after(self, now: u64, message: &Down) -> Result<SentRow, NoteFault>
-        ensures sends { IfOk result (λ row. sending_of row.sending ≡ copies.sending_after (sending_of self.sending) now message.now) }
-        ensures tells { IfOk result (λ row. tally_of row.tally ≡ units.tally_after (tally_of self.tally) now message.now) }
+        ensures sends { IfOk result (λ row. sending_of row.sending
+            ≡ copies.sending_after (sending_of self.sending) now message.now) }
+        ensures tells { IfOk result (λ row. tally_of row.tally
+            ≡ units.tally_after (tally_of self.tally) now message.now) }
         ensures room { IsOk result ↔ (has_room self.tally ≡ true) }
         ensures fails { IfErr result (λ fault. fault ≡ NoteFault.Full) }
     {
@@ -135,7 +137,8 @@ impl SentBook {
             → OnOk result (AgreeSendings self.new (sent_about sendings now message.now (OfHolder onu))) }
         ensures tells { (tallies : Tallies) → AgreeTallies self.old tallies
             → OnOk result (AgreeTallies self.new (tallied_about tallies now message.now (OfHolder onu))) }
-        ensures room { IsOk result ↔ (let row = (let book = self.old in row_of book.holders onu) in has_room row.tally ≡ true) }
+        ensures room { IsOk result
+            ↔ (let row = (let book = self.old in row_of book.holders onu) in has_room row.tally ≡ true) }
         ensures same { OnErr result (self.new ≡ self.old) }
         ensures fails { IfErr result (λ fault. fault ≡ NoteFault.Full) }
     {
@@ -155,7 +158,8 @@ impl SentBook {
             → OnOk result (AgreeSendings self.new (sent_about sendings now message.now (OfDelay onu))) }
         ensures tells { (tallies : Tallies) → AgreeTallies self.old tallies
             → OnOk result (AgreeTallies self.new (tallied_about tallies now message.now (OfDelay onu))) }
-        ensures room { IsOk result ↔ (let row = (let book = self.old in row_of book.delays onu) in has_room row.tally ≡ true) }
+        ensures room { IsOk result
+            ↔ (let row = (let book = self.old in row_of book.delays onu) in has_room row.tally ≡ true) }
         ensures same { OnErr result (self.new ≡ self.old) }
         ensures fails { IfErr result (λ fault. fault ≡ NoteFault.Full) }
     {
