@@ -1,0 +1,5 @@
+pub mod CutLemmas
+pub mod FieldLemmas
+pub mod PlaceLemmas
+pub mod QuotedLemmas
+pub mod ReturnLemmas
