@@ -5,6 +5,7 @@ use Rattle.gp_ploam.specs.declared.check.Mask.{Mask}
 use Rattle.gp_log.specs.declared.fault.LogFault.{LogFault}
 use Rattle.gp_log.specs.declared.line.LogLine.{LogLine}
 use Rattle.gp_log.specs.Line.{text_of}
+use Rattle.line_columns.specs.Layout.{LayoutState, plain_of}
 use Rattle.gp_audit.specs.declared.options.AuditForm.{AuditForm}
 use Rattle.gp_audit.specs.declared.options.AuditForm.TheVariants as forms
 use Rattle.gp_audit.specs.declared.options.AuditOptions.{AuditOptions}
@@ -20,10 +21,11 @@ silent forms.Text mask text read again other h = h
 silent forms.Words mask text read again other h = absurd (other refl)
 silent forms.Json mask text read again other h = h
 
-line_silent : (options : AuditOptions) (line : Option (List ℕ)) (read : Result LogLine LogFault) (again : List ℕ) → options.form ≢ forms.Words → TellsLineAgain options line read again
+line_silent : (options : AuditOptions) (layout : LayoutState) (line : Option (List ℕ)) (read : Result LogLine LogFault) (again : List ℕ) → options.form ≢ forms.Words
+    → TellsLineAgain options layout line read again
     → again ≡ []
-line_silent options None read again other h = h
-line_silent options (Some line) read again other h = silent options.form options.mask (text_of line) read again other h
+line_silent options layout None read again other h = h
+line_silent options layout (Some line) read again other h = silent options.form options.mask (text_of (plain_of layout line)) read again other h
 
 pub counts : (lines : List (Option (List ℕ))) (old new : AuditState) (said : List ℕ) → DoesAll Auditing old lines said new → Counts old lines said new
 counts [] old new said h =
@@ -48,7 +50,7 @@ counts (line ∷ lines) old new said h =
       errors_are = let many = c.errors_are in let more = errors_more here c.notices in omega (arith, many, more);
       text = λ other.
           h.5
-          ∙ ap (λ (l : List ℕ). l ++ h.1) (says.said_is ∙ ap (λ (l : List ℕ). l ++ notices_text old.options here) (line_silent old.options line read says.again other says.tells))
+          ∙ ap (λ (l : List ℕ). l ++ h.1) (says.said_is ∙ ap (λ (l : List ℕ). l ++ notices_text old.options here) (line_silent old.options old.layout line read says.again other says.tells))
           ∙ ap (λ (l : List ℕ). notices_text old.options here ++ l) (c.text other)
           ∙ sym (text_more old.options here c.notices);
     }

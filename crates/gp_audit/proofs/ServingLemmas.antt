@@ -1,5 +1,5 @@
 -- Lines that are handed to an auditor.
-use Rattle.std.proofs.Common.{◌≡◌, inl, inr, refl, ℕ, ◌+◌, List, ◌++◌, Option, Result, Ok, Err, IsErrAnd, sym, ap, subst, ◌∙◌}
+use Rattle.std.proofs.Common.{◌≡◌, inl, inr, refl, ℕ, ◌+◌, List, ◌++◌, Option, Some, Result, Ok, Err, IsErrAnd, sym, ap, subst, ◌∙◌}
 use Rattle.gp_flow.specs.declared.fault.Unanswered.{Unanswered}
 use Rattle.gp_flow.specs.declared.fault.Unanswered.TheVariants.{Write}
 use Rattle.gp_flow.specs.Lines.{Answers, most_lines}
@@ -9,6 +9,8 @@ use Rattle.gp_stream.specs.Sink.{SinkState, Puts}
 use Rattle.gp_ploam.specs.declared.check.Mask.{Mask}
 use Rattle.gp_log.specs.declared.fault.LogFault.{LogFault}
 use Rattle.gp_log.specs.declared.line.LogLine.{LogLine}
+use Rattle.gp_log.specs.Line.{Reads}
+use Rattle.line_columns.specs.Layout.{LayoutState, plain_of}
 use Rattle.gp_finding.specs.declared.error.AuditSum.{AuditSum}
 use Rattle.gp_audit.specs.declared.book.Book.{Book}
 use Rattle.gp_audit.specs.declared.fault.AuditFault.{AuditFault}
@@ -28,9 +30,13 @@ use Rattle.gp_audit.specs.Port.{PortState}
 abbrev pub stands : AuditState → List PortState → AuditSum → AuditState
 stands old ports sum = record old { ports = ports; sum = sum }
 
+-- what is read of a line is what is read of the text that its layout makes of it
+pub reads_plain : (layout : LayoutState) (line plain : List ℕ) (read : Result LogLine LogFault) → plain ≡ plain_of layout line → Reads plain read → ReadsLine layout (Some line) read
+reads_plain layout line plain read same reads = subst (λ (text : List ℕ). Reads text read) same reads
+
 -- what the book says of a line is what is said to it
 pub audited : (old : AuditState) (line : Option (List ℕ)) (read : Result LogLine LogFault) (again : List ℕ) (a b : Book) (ports : List PortState)
-    → ReadsLine line read → TellsLineAgain old.options line read again → a.said.items ≡ again → a.sum ≡ sum_behind old.sum
+    → ReadsLine old.layout line read → TellsLineAgain old.options old.layout line read again → a.said.items ≡ again → a.sum ≡ sum_behind old.sum
     → TellsNotices old.options (next_told old read) a b → ports ≡ ports_after old.options old.ports read → Audits old line b.said.items (stands old ports b.sum)
 audited old line read again a b ports reads tells first begun told noted =
     let sums = told.sum ∙ ap (λ (s : AuditSum). sum_with s (next_told old read)) begun in (
@@ -46,7 +52,7 @@ audited old line read again a b ports reads tells first begun told noted =
 
 -- the same of a line with this number, and how it stood before it
 pub line_says : (old now : AuditState) (line : Option (List ℕ)) (read : Result LogLine LogFault) (again said : List ℕ) (number : ℕ) (a b : Book) (ports : List PortState) → old ≡ now
-    → ReadsLine line read → TellsLineAgain old.options line read again → a.said.items ≡ again → a.sum ≡ sum_behind old.sum → number ≡ old.sum.lines + 1
+    → ReadsLine old.layout line read → TellsLineAgain old.options old.layout line read again → a.said.items ≡ again → a.sum ≡ sum_behind old.sum → number ≡ old.sum.lines + 1
     → TellsNotices old.options (told_of old.options old.ports number read) a b → ports ≡ ports_after old.options old.ports read → said ≡ b.said.items
     → Audits now line said (stands old ports b.sum)
 line_says old now line read again said number a b ports is reads tells first begun counted told noted all =
@@ -87,7 +93,7 @@ cannot_count old read sum number audits.Full begun counted h is =
     subst (λ (s : AuditSum). TellingFails s (next_told old read) (LineFails old.options old.ports read watches.Full) audits.Full) begun here
 
 -- since a count can't go on with it
-pub overfull : (old now : AuditState) (line : Option (List ℕ)) (read : Result LogLine LogFault) (sum : AuditSum) (number : ℕ) (fault : AuditFault) → old ≡ now → ReadsLine line read
+pub overfull : (old now : AuditState) (line : Option (List ℕ)) (read : Result LogLine LogFault) (sum : AuditSum) (number : ℕ) (fault : AuditFault) → old ≡ now → ReadsLine old.layout line read
     → sum ≡ sum_behind old.sum → number ≡ old.sum.lines + 1
     → TellingFails sum (told_of old.options old.ports number read) (LineFails old.options old.ports read watches.Full) fault → fault ≡ audits.Full → IsFull now line
 overfull old now line read sum number fault is reads begun counted h full =

@@ -3,6 +3,7 @@ use Rattle.std.specs.Prelude.{◌≡◌, ◌⊎◌, ℕ, ◌+◌, Bool, false, i
 use Rattle.std.specs.List.{fold, list_all}
 use Rattle.gp_machine.specs.Config.{max_ports}
 use Rattle.gp_flow.specs.Lines.{Speech, WholeLines, most_lines}
+use Rattle.line_columns.specs.Layout.{LayoutState, plain_of}
 use Rattle.gp_log.specs.declared.fault.LogFault.{LogFault}
 use Rattle.gp_log.specs.declared.fault.LogFault.TheVariants as faults
 use Rattle.gp_log.specs.declared.line.LogLine.{LogLine}
@@ -19,17 +20,20 @@ use Rattle.gp_audit.specs.Notice.{Notice, notices_text, sum_behind, sum_with}
 use Rattle.gp_audit.specs.Port.{PortState, port_begun, port_of}
 use Rattle.gp_audit.specs.Port as port
 
--- where it stands: what is known of each port, and how many lines, findings and errors there were
+-- where it stands: how lines are laid out, what is known of each port, and how many lines, findings and errors there
+-- were
 pub record AuditState : Type 0 where
   pub options : AuditOptions
+  pub layout : LayoutState
   pub ports : List PortState
   pub sum : AuditSum
 
 -- before the first line
-abbrev pub audit_begun : AuditOptions → AuditState
-audit_begun options =
+abbrev pub audit_begun : AuditOptions → LayoutState → AuditState
+audit_begun options layout =
     record {
       options = options;
+      layout = layout;
       ports = replicate max_ports (port_begun options.midway);
       sum = record { lines = 0; findings = 0; errors = 0 };
     }
@@ -65,26 +69,28 @@ audit_after state read =
 
 -- ---- what is said
 
--- what is read of a line, or of one that is too long to be looked at
-abbrev pub ReadsLine : Option (List ℕ) → Result LogLine LogFault → Type 0
-ReadsLine None read = read ≡ Err faults.Long
-ReadsLine (Some line) read = Reads line read
+-- what is read of a line by its layout, or of one that is too long to be looked at
+abbrev pub ReadsLine : LayoutState → Option (List ℕ) → Result LogLine LogFault → Type 0
+ReadsLine layout None read = read ≡ Err faults.Long
+ReadsLine layout (Some line) read = Reads (plain_of layout line) read
 
 -- how it is told again; of one that is too long there is nothing to tell
-abbrev pub TellsLineAgain : AuditOptions → Option (List ℕ) → Result LogLine LogFault → List ℕ → Type 0
-TellsLineAgain options None read again = again ≡ []
-TellsLineAgain options (Some line) read again = TellsAgain options.form options.mask (text_of line) read again
+abbrev pub TellsLineAgain : AuditOptions → LayoutState → Option (List ℕ) → Result LogLine LogFault → List ℕ → Type 0
+TellsLineAgain options layout None read again = again ≡ []
+TellsLineAgain options layout (Some line) read again =
+    TellsAgain options.form options.mask (text_of (plain_of layout line)) read again
 
 -- what is said to a line: it is told again, and behind it what is told of it
 pub record SaysRead (old : AuditState) (line : Option (List ℕ)) (read : Result LogLine LogFault) (said : List ℕ)
     (new : AuditState) : Type 0 where
   pub again : List ℕ
-  pub tells : TellsLineAgain old.options line read again
+  pub tells : TellsLineAgain old.options old.layout line read again
   pub said_is : said ≡ again ++ notices_text old.options (next_told old read)
   pub next : new ≡ audit_after old read
 
 abbrev pub Audits : AuditState → Option (List ℕ) → List ℕ → AuditState → Type 0
-Audits old line said new = (read : Result LogLine LogFault) × ReadsLine line read × SaysRead old line read said new
+Audits old line said new =
+    (read : Result LogLine LogFault) × ReadsLine old.layout line read × SaysRead old line read said new
 
 -- why no more can be told and noted, by what is read of a line: the findings or the errors can't be counted with those
 -- of this line, or the asks of one serial number
@@ -96,7 +102,7 @@ CannotCount old read =
 abbrev pub IsFull : AuditState → Option (List ℕ) → Type 0
 IsFull old line =
     (old.sum.lines ≡ most_lines)
-    ⊎ ((read : Result LogLine LogFault) × ReadsLine line read × CannotCount old read)
+    ⊎ ((read : Result LogLine LogFault) × ReadsLine old.layout line read × CannotCount old read)
 
 -- what is said to lines, each of which is answered whole or not at all
 abbrev pub Auditing : Speech AuditState

@@ -2,7 +2,6 @@
 -- profile's own rule).
 use Rattle.std.specs.Prelude.{◌≡◌, ◌+◌, ◌^◌, ◌-◌, ◌==◌, ℕ, Bool, true, false, not, ◌&&◌, ◌||◌, if◌then◌else◌, List, [], ◌∷◌, ◌++◌, filter, length, min, None, Some}
 use Rattle.std.specs.List.{fold, list_all, list_any}
-use Rattle.gp_ploam.specs.declared.message.Down.{Down}
 use Rattle.gp_ploam.specs.declared.message.Down.TheVariants.{NoMessage}
 use Rattle.gp_observer.specs.declared.rule.Rule.{Rule}
 use Rattle.gp_observer.specs.declared.rule.Rule.TheVariants as rule

@@ -20,7 +20,7 @@ use Rattle.gp_audit.specs.Notice.{Notice, errors_among, findings_among, notices_
 abbrev pub AreTold : AuditState → List (Option (List ℕ)) → List Notice → AuditState → Type 0
 AreTold old [] notices new = (notices ≡ []) × (new ≡ old)
 AreTold old (line ∷ lines) notices new =
-    (read : Result LogLine LogFault) × (rest : List Notice) × ReadsLine line read
+    (read : Result LogLine LogFault) × (rest : List Notice) × ReadsLine old.layout line read
     × AreTold (audit_after old read) lines rest new × (notices ≡ next_told old read ++ rest)
 
 -- the sum counts the lines, and the findings and errors among all that is told of them; where lines aren't told again,

@@ -2,6 +2,7 @@
 //! was counted.
 ghost use Rattle.std.specs.Prelude.{◌≡◌, ◌<◌, IfOk};
 ghost use Rattle.gp_machine.specs.Config.{max_ports};
+ghost use Rattle.line_columns.specs.Layout.{as_they_are};
 ghost use Rattle.gp_audit.specs.Audit.{audit_begun, is_silent, judged_at, judged_on};
 ghost use Rattle.gp_audit.specs.Outcome.{TellsEnd};
 
@@ -13,6 +14,7 @@ use crate::ports::Ports;
 use gp_finding::{AuditSum, push_sum};
 use gp_flow::Unanswered;
 use gp_stream::Sink;
+use line_columns::Layout;
 use std::alloc::{AllocError, Global};
 use std::io::Write;
 use std::marker::Model;
@@ -20,14 +22,17 @@ use std::marker::Model;
 /// How much room the buffer of a line has at first.
 const LINE_ROOM: usize = 512;
 
-/// Audits the lines of a log, one after another. Contracts see what it judges by and tells, what is known of each port,
-/// and how many lines, findings and errors there were.
+/// Audits the lines of a log, one after another. Contracts see what it judges by and tells, how lines are laid out, what
+/// is known of each port, and how many lines, findings and errors there were.
 #[derive(Drop)]
 pub struct Auditor {
     pub(crate) options: AuditOptions,
+    pub(crate) layout: Layout,
     pub(crate) ports: Ports,
     pub(crate) book: Book,
     pub(crate) again: Again,
+    /// Room for what is read of a line with a layout.
+    pub(crate) plain: Vec<u8>,
 }
 
 impl Model for Auditor {
@@ -41,7 +46,12 @@ impl Model for Auditor {
 
     ghost coded = { Prim.hlevel (codes, watch_code, census_code) };
 
-    ghost view = { λ a. record { options = a.options; ports = a.ports; sum = a.book.sum } };
+    ghost view = { λ a. record {
+      options = a.options;
+      layout = a.layout;
+      ports = a.ports;
+      sum = a.book.sum;
+    } };
 
     ghost invariant = { λ a. a.again ≡ a.options.mask };
 }
@@ -50,7 +60,18 @@ impl Auditor {
     /// Makes one to which no line came. Fails only where there is no memory; a line takes more only for a serial number
     /// that is new, or where what is said to it needs more room than any line before.
     pub fn begin(alloc: Global, options: &AuditOptions) -> Result<Auditor, AllocError>
-        ensures { IfOk result (λ auditor. auditor ≡ audit_begun options.now) }
+        ensures { IfOk result (λ auditor. auditor ≡ audit_begun options.now as_they_are) }
+    {
+        Auditor::begin_with(alloc, options, Layout::as_they_are(alloc))
+    }
+
+    /// Makes one whose lines are laid out like this.
+    pub fn begin_with(
+        alloc: Global,
+        options: &AuditOptions,
+        layout: Layout,
+    ) -> Result<Auditor, AllocError>
+        ensures { IfOk result (λ auditor. auditor ≡ audit_begun options.now layout) }
     {
         let ports = Ports::begin(alloc, options.midway)?;
         let said = Vec::with_capacity(alloc, LINE_ROOM)?;
@@ -61,9 +82,11 @@ impl Auditor {
         };
         Ok(Auditor {
             options: *options,
+            layout,
             ports,
             book: Book { said, sum },
             again: Again::begin(alloc, options.mask),
+            plain: Vec::new(alloc),
         })
     }
 

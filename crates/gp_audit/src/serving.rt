@@ -4,6 +4,7 @@ use gp_finding::LineError;
 use gp_flow::{LineWork, Unanswered};
 use gp_log::{LogFault, read_line, text_of};
 use gp_stream::Sink;
+use line_columns::plain_of;
 use std::io::Write;
 
 impl LineWork for Auditor {
@@ -18,9 +19,11 @@ impl LineWork for Auditor {
     }
 
     fn line<W: Write>(&mut self, text: &[u8], sink: &mut Sink<W>) -> Result<(), Unanswered> {
-        let read = read_line(text);
+        let plain = plain_of(&self.layout, text, &mut self.plain)?;
+        let read = read_line(plain);
         let number = self.book.begin_line()?;
-        self.again.tell_in(self.options.form, text_of(text), &read, &mut self.book.said)?;
+        self.again
+            .tell_in(self.options.form, text_of(plain), &read, &mut self.book.said)?;
         self.ports
             .audit(&mut self.book, &self.options, number, &read)?;
         sink.put(self.book.said.as_slice())?;
