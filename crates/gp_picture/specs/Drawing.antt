@@ -1,9 +1,10 @@
 -- How far an input was read (this profile's own rule). What is drawn of a line is tested, and not said here.
-use Rattle.std.specs.Prelude.{◌≡◌, ℕ, ◌+◌, ◌⊎◌, ◌||◌, not, Bool, false, List, [], Option, None, Some, is_some, Ok}
+use Rattle.std.specs.Prelude.{◌≡◌, ℕ, ◌+◌, ◌⊎◌, ◌||◌, not, Bool, false, List, [], Option, None, Some, is_some, Ok, map}
 use Rattle.gp_flow.specs.Lines.{Speech, WholeLines, most_lines}
 use Rattle.gp_explain.specs.declared.fault.NoLine.{NoLine}
 use Rattle.gp_explain.specs.declared.fault.NoLine.TheVariants.{NotALine, TooLong}
 use Rattle.gp_ploam.specs.declared.check.Mask.{Mask}
+use Rattle.line_columns.specs.Layout.{LayoutState, plain_of}
 use Rattle.gp_log.specs.declared.line.LogLine.{LogLine}
 use Rattle.gp_log.specs.declared.line.LogLine.TheVariants as line
 use Rattle.gp_log.specs.declared.said.Said.{Said}
@@ -15,7 +16,8 @@ use Rattle.gp_times.specs.Times.{TimesState, times_after, times_begun}
 use Rattle.gp_times.specs.Lines.{IsUnread}
 
 -- how many lines came, whether one of them says anything, why the last of them ended it, if it did, the times of the
--- ports, with how many lines fell, the mask of the codes, and how many codes came, with how many of them are garbled
+-- ports, with how many lines fell, the mask of the codes, how many codes came, with how many of them are garbled, and
+-- how lines are laid out
 pub record DrawState : Type 0 where
   pub lines : ℕ
   pub heard : Bool
@@ -23,11 +25,20 @@ pub record DrawState : Type 0 where
   pub times : TimesState
   pub mask : Mask
   pub codes : Codes
+  pub layout : LayoutState
 
 -- before the first line
-abbrev pub opened : Mask → DrawState
-opened mask =
-    record { lines = 0; heard = false; ended = None; times = times_begun; mask = mask; codes = no_codes }
+abbrev pub opened : Mask → LayoutState → DrawState
+opened mask layout =
+    record {
+      lines = 0;
+      heard = false;
+      ended = None;
+      times = times_begun;
+      mask = mask;
+      codes = no_codes;
+      layout = layout;
+    }
 
 -- one line more came, which says this
 abbrev pub counted : LogLine → DrawState → DrawState
@@ -43,17 +54,18 @@ counted line state =
 abbrev pub ended_by : NoLine → DrawState → DrawState
 ended_by why state = record state { lines = state.lines + 1; ended = Some why }
 
--- a line that is read is counted; any other ends it
+-- a text that is read is counted; any other ends it
 abbrev pub DrawsText : DrawState → List ℕ → DrawState → Type 0
 DrawsText old text new =
     ((line : LogLine) × Reads text (Ok line) × (new ≡ counted line old))
     ⊎ (IsUnread text × (new ≡ ended_by NotALine old))
 
--- by what ended it before: nothing is looked at any more; a line that is too long ends it
+-- by what ended it before: nothing is looked at any more; a line that is too long ends it; of another line what its
+-- layout makes of it is read
 abbrev pub DrawsFrom : Option NoLine → DrawState → Option (List ℕ) → DrawState → Type 0
 DrawsFrom (Some why) old line new = new ≡ old
 DrawsFrom None old None new = new ≡ ended_by TooLong old
-DrawsFrom None old (Some text) new = DrawsText old text new
+DrawsFrom None old (Some text) new = DrawsText old (plain_of old.layout text) new
 
 -- nothing is said to a line
 abbrev pub Draws : DrawState → Option (List ℕ) → List ℕ → DrawState → Type 0
@@ -73,13 +85,13 @@ TellsBurst (line.Log port time heard) = IsBurst (Some heard)
 TellsBurst (line.Trace port is_frame first second) = IsBurst first ⊎ IsBurst second
 
 -- the asks of a unit may not be counted any more with this line: only a burst asks
-abbrev pub MayAsk : Option (List ℕ) → Type 0
-MayAsk None = ⊥
-MayAsk (Some text) = (line : LogLine) × Reads text (Ok line) × TellsBurst line
+abbrev pub MayAsk : LayoutState → Option (List ℕ) → Type 0
+MayAsk layout None = ⊥
+MayAsk layout (Some text) = (line : LogLine) × Reads (plain_of layout text) (Ok line) × TellsBurst line
 
 -- why no more lines can be taken: it has not ended, and so many have come as can be counted, or asks can't be
 abbrev pub IsFull : DrawState → Option (List ℕ) → Type 0
-IsFull state line = (state.ended ≡ None) × ((state.lines ≡ most_lines) ⊎ MayAsk line)
+IsFull state line = (state.ended ≡ None) × ((state.lines ≡ most_lines) ⊎ MayAsk state.layout line)
 
 abbrev pub Drawing : Speech DrawState
 Drawing = WholeLines IsFull Draws
@@ -87,3 +99,7 @@ Drawing = WholeLines IsFull Draws
 -- it has ended
 abbrev pub has_ended : DrawState → Bool
 has_ended state = is_some state.ended
+
+-- what is read of lines by their layout
+abbrev pub plains : LayoutState → List (List ℕ) → List (List ℕ)
+plains layout lines = map (plain_of layout) lines

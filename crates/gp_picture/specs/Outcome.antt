@@ -8,6 +8,7 @@ use Rattle.gp_flow.specs.Lines.{ServesFull, lines_of, longest_line}
 use Rattle.gp_stream.specs.declared.sink.WriteStopped.{WriteStopped}
 use Rattle.gp_stream.specs.Sink.{SinkState, KeepsNothing, WritesWhole}
 use Rattle.gp_stream.specs.Source.{SourceState, ReadsWhole}
+use Rattle.line_columns.specs.Layout.{LayoutState, plain_of}
 use Rattle.gp_explain.specs.declared.fault.ExplainFault.{ExplainFault}
 use Rattle.gp_explain.specs.declared.fault.ExplainFault.TheVariants.{Refused, Lines}
 use Rattle.gp_explain.specs.declared.fault.NoLine.{NoLine}
@@ -18,22 +19,22 @@ use Rattle.gp_picture.specs.declared.running.PictureSum.{PictureSum}
 use Rattle.gp_times.specs.declared.frames.Frames.{Frames}
 use Rattle.gp_times.specs.Lines.{AreRead, HaveFallen, IsRead, IsUnread, IsWhere}
 use Rattle.gp_times.specs.Times.{outside_of}
-use Rattle.gp_picture.specs.Drawing.{DrawState, Drawing, opened}
+use Rattle.gp_picture.specs.Drawing.{DrawState, Drawing, opened, plains}
 
 -- a whole SVG document (W3C, Scalable Vector Graphics 1.1). What stands in it is tested, and not said here.
 abbrev pub IsSvg : List ℕ → Type 0
 IsSvg text = (inside : List ℕ) × (text ≡ codes "<svg " ++ inside ++ codes "</svg>\n")
 
--- the whole input was read, each of its lines is read, and the writer got one picture
-pub record IsDrawn {R W : Type 0} (frames : Frames) (mask : Mask) (from to : SourceState R) (before after : SinkState W)
-    (sum : PictureSum) : Type 0 where
+-- the whole input was read, each of its lines is read by its layout, and the writer got one picture
+pub record IsDrawn {R W : Type 0} (layout : LayoutState) (frames : Frames) (mask : Mask) (from to : SourceState R)
+    (before after : SinkState W) (sum : PictureSum) : Type 0 where
   pub text : List ℕ
   pub read : ReadsWhole from to text
-  pub all : AreRead (lines_of text) sum.heard
+  pub all : AreRead (plains layout (lines_of text)) sum.heard
   pub count : length (lines_of text) ≡ sum.lines
-  pub outside : IsWhere frames (lines_of text) sum.outside
-  pub fallen : HaveFallen (lines_of text) sum.fallen
-  pub codes : HaveCodes mask (lines_of text) sum.codes
+  pub outside : IsWhere frames (plains layout (lines_of text)) sum.outside
+  pub fallen : HaveFallen (plains layout (lines_of text)) sum.fallen
+  pub codes : HaveCodes mask (plains layout (lines_of text)) sum.codes
   -- the writer got all of it, and keeps nothing back
   pub picture : List ℕ
   pub svg : IsSvg picture
@@ -41,13 +42,13 @@ pub record IsDrawn {R W : Type 0} (frames : Frames) (mask : Mask) (from to : Sou
   pub kept : KeepsNothing after
 
 -- why a text is no line of a trace or a log
-abbrev pub IsNone : NoLine → List ℕ → Type 0
-IsNone NotALine text = IsUnread text
-IsNone TooLong text = longest_line < length text
+abbrev pub IsNone : LayoutState → NoLine → List ℕ → Type 0
+IsNone layout NotALine text = IsUnread (plain_of layout text)
+IsNone layout TooLong text = longest_line < length text
 
 -- the lines before this one are read, this one is not, and no picture is written
-pub record IsRefused {R W : Type 0} (from to : SourceState R) (before after : SinkState W) (line : ℕ) (why : NoLine)
-    : Type 0 where
+pub record IsRefused {R W : Type 0} (layout : LayoutState) (from to : SourceState R) (before after : SinkState W)
+    (line : ℕ) (why : NoLine) : Type 0 where
   -- what was read
   pub bytes : List ℕ
   pub came : Consumes from.remaining to.remaining bytes
@@ -56,9 +57,9 @@ pub record IsRefused {R W : Type 0} (from to : SourceState R) (before after : Si
   pub text : List ℕ
   pub others : List (List ℕ)
   pub lines : lines_of bytes ≡ first ++ text ∷ others
-  pub all : All IsRead first
+  pub all : All IsRead (plains layout first)
   pub number : length first + 1 ≡ line
-  pub none : IsNone why text
+  pub none : IsNone layout why text
   pub written : Appends before.held after.held before.gathered
   pub kept : KeepsNothing after
 
@@ -75,15 +76,16 @@ pub record IsBegun {R W : Type 0} (from to : SourceState R) (before after : Sink
 
 -- how it may end; a failed read, and the bound of reads, are told as such. Memory may run out before anything was read.
 -- That no more lines can be taken is told only where one of the lines is why.
-abbrev pub DrawsTrace : {R W : Type 0} → Frames → Mask → SourceState R → SourceState R → SinkState W → SinkState W
-    → Result PictureSum ExplainFault → Type 0
-DrawsTrace frames mask from to before after (Ok sum) = IsDrawn frames mask from to before after sum
-DrawsTrace frames mask from to before after (Err (Refused line why)) = IsRefused from to before after line why
-DrawsTrace frames mask from to before after (Err (Lines faults.Read)) =
+abbrev pub DrawsTrace : {R W : Type 0} → LayoutState → Frames → Mask → SourceState R → SourceState R → SinkState W
+    → SinkState W → Result PictureSum ExplainFault → Type 0
+DrawsTrace layout frames mask from to before after (Ok sum) = IsDrawn layout frames mask from to before after sum
+DrawsTrace layout frames mask from to before after (Err (Refused line why)) =
+    IsRefused layout from to before after line why
+DrawsTrace layout frames mask from to before after (Err (Lines faults.Read)) =
     IsBegun from to before after × ((to.failed ≡ true) ⊎ (to.left ≡ 0))
-DrawsTrace frames mask from to before after (Err (Lines (faults.Line fault))) =
+DrawsTrace layout frames mask from to before after (Err (Lines (faults.Line fault))) =
     (IsBegun from to before after ⊎ ((fault ≡ OutOfMemory) × (to ≡ from) × (after ≡ before)))
-    × (fault ≡ Full → ServesFull Drawing longest_line from to (opened mask))
+    × (fault ≡ Full → ServesFull Drawing longest_line from to (opened mask layout))
 
 -- how a picture is written, if it is
 abbrev pub WritesPicture : {W : Type 0} → SinkState W → SinkState W → Result (Unit {0}) ExplainFault → Type 0

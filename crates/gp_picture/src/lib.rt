@@ -13,7 +13,8 @@
 //! - `port.rt`: what is kept of one port, and what something that is heard changes of it. `picture.rt`: all that is
 //!   drawn. `fault.rt`: why a line can't be.
 //! - `drawer.rt`: `Drawer`, which is given lines one after another; `serving.rt`: as what serves lines.
-//!   `running.rt`: `draw_trace`, from the bytes of a trace or a log to its picture.
+//!   `running.rt`: `draw_trace`, from the bytes of a trace or a log to its picture; `draw_trace_with`, the same of lines
+//!   that are laid out in columns.
 //! - `scale.rt`: where a frame stands in the picture. `text.rt`: the elements; `legend.rt`, `mark_text.rt`,
 //!   `lane_text.rt`, `port_text.rt`: the legend, a row of marks, a lane, a port; `whole.rt`: the whole picture.
 //!
@@ -47,4 +48,4 @@ pub use gp_finding::Codes;
 pub use gp_lines::PORTS;
 pub use gp_times::{Frames, Outside};
 pub use options::PictureOptions;
-pub use running::{PictureSum, draw_trace};
+pub use running::{PictureSum, draw_trace, draw_trace_with};

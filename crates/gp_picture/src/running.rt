@@ -1,6 +1,7 @@
 //! From the bytes of a trace or a log to its picture: nothing is written before all of it was read, and none where a
 //! line can't be.
 ghost use Rattle.std.specs.Prelude.{◌≡◌, true};
+ghost use Rattle.line_columns.specs.Layout.{as_they_are};
 ghost use Rattle.gp_picture.specs.Outcome as spec;
 
 use crate::drawer::Drawer;
@@ -12,6 +13,7 @@ use gp_finding::Codes;
 use gp_flow::{LinesFault, Unanswered, run_lines};
 use gp_stream::{Sink, Source};
 use gp_times::{Outside, PortTimes};
+use line_columns::Layout;
 use std::alloc::Global;
 use std::io::{Read, Write};
 
@@ -44,9 +46,25 @@ pub fn draw_trace<R: Read, W: Write>(
     sink: &mut Sink<W>,
 ) -> Result<PictureSum, ExplainFault>
     requires { sink.old.flushed ≡ true }
-    ensures { spec.DrawsTrace options.now.frames options.now.mask source.old source.new sink.old sink.new result }
+    ensures { spec.DrawsTrace as_they_are options.now.frames options.now.mask
+        source.old source.new sink.old sink.new result }
 {
-    let mut drawer = Drawer::begin(alloc, options)?;
+    draw_trace_with(alloc, options, Layout::as_they_are(alloc), source, sink)
+}
+
+/// Draws a log whose lines are laid out like this: of each line what its layout makes of it is read.
+pub fn draw_trace_with<R: Read, W: Write>(
+    alloc: Global,
+    options: &PictureOptions,
+    layout: Layout,
+    source: &mut Source<R>,
+    sink: &mut Sink<W>,
+) -> Result<PictureSum, ExplainFault>
+    requires { sink.old.flushed ≡ true }
+    ensures { spec.DrawsTrace layout options.now.frames options.now.mask
+        source.old source.new sink.old sink.new result }
+{
+    let mut drawer = Drawer::begin(alloc, options, layout)?;
     run_lines(alloc, source, sink, &mut drawer)?;
     finish(alloc, options, &drawer, sink)
 }

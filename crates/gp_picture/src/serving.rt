@@ -5,6 +5,7 @@ use gp_explain::NoLine;
 use gp_flow::{LineWork, Unanswered};
 use gp_log::read_line;
 use gp_stream::Sink;
+use line_columns::plain_of;
 use std::io::Write;
 
 impl LineWork for Drawer {
@@ -25,7 +26,8 @@ impl LineWork for Drawer {
         if self.lines == u64::MAX {
             return Err(Unanswered::Full);
         }
-        let Ok(read) = read_line(text) else {
+        let plain = plain_of(&self.layout, text, &mut self.plain)?;
+        let Ok(read) = read_line(plain) else {
             self.lines += 1;
             self.ended = Some(NoLine::NotALine);
             return Ok(());
@@ -33,7 +35,10 @@ impl LineWork for Drawer {
         let number = self.lines + 1;
         let falls = self.times.hear(&read);
         self.codes.hear(self.mask, &read);
-        let line = LineText { number, text };
+        let line = LineText {
+            number,
+            text: plain,
+        };
         self.picture.line(&line, &read, &self.times, falls)?;
         self.lines = number;
         self.heard = self.heard || !read.says_nothing();
