@@ -22,8 +22,12 @@ impl LineWork for Auditor {
         let plain = plain_of(&self.layout, text, &mut self.plain)?;
         let read = read_line(plain);
         let number = self.book.begin_line()?;
-        self.again
-            .tell_in(self.options.form, text_of(plain), &read, &mut self.book.said)?;
+        self.again.tell_in(
+            self.options.form,
+            text_of(plain),
+            &read,
+            &mut self.book.said,
+        )?;
         self.ports
             .audit(&mut self.book, &self.options, number, &read)?;
         sink.put(self.book.said.as_slice())?;

@@ -1,6 +1,6 @@
-//! The tests of `gp_finding`, `gp_audit`, `gp_census` and `gp_transcribe`: they try what no clause says, and what a
-//! contract says once more, on logs that are written by hand. They stand here, since a crate with tests is proved
-//! twice.
+//! The tests of `line_columns`, `gp_finding`, `gp_audit`, `gp_census` and `gp_transcribe`: they try what no clause says,
+//! and what a contract says once more, on logs that are written by hand. They stand here, since a crate with tests is
+//! proved twice.
 //!
 //! - `words.rt`: logs in words, and what an audit says of one.
 //! - `rules.rt`: each rule broken alone, and not broken by what is nearest to that.
@@ -11,8 +11,11 @@
 //! - `many.rt`: more serial numbers than are followed, more delays than are kept, a line that is too long, what is told
 //!   alone.
 //! - `judged.rt`: what of a log is judged.
+//! - `columns.rt`: exports of analysers and spreadsheets; `plain.rt`: what is read of one of their lines.
 #![tactic(auto)]
 
+#[cfg(test)]
+mod columns;
 #[cfg(test)]
 mod judged;
 #[cfg(test)]
@@ -21,6 +24,8 @@ mod lines;
 mod many;
 #[cfg(test)]
 mod options;
+#[cfg(test)]
+mod plain;
 #[cfg(test)]
 mod rules;
 #[cfg(test)]

@@ -19,7 +19,8 @@ pub struct Parts<'t> {
 #[derive(Clone, Copy, Debug, PartialEq, Eq, Error)]
 pub enum AskedFault<'t> {
     /// A part that says no column of a key.
-    #[error("\"{0}\" is no column; write KEY=COLUMN, KEY time, dir, code, delay or port, COLUMN a number from 1 or a name")]
+    #[error("\"{0}\" is no column; write KEY=COLUMN, KEY time, dir, code, delay or port, COLUMN a number from 1 \
+or a name")]
     Part(&'t str),
     /// A key that has to have a column.
     #[error("{0} has no column; time, dir and code have to have one")]

@@ -48,7 +48,8 @@ impl Layout {
         }
     }
 
-    /// Lines with these columns. A line that is the heading says nothing; an empty heading is none. Takes memory for it.
+    /// Lines with these columns. A line that is the heading says nothing; an empty heading is none. It is kept, in memory
+    /// of its own.
     pub fn columned(
         alloc: Global,
         unit: TimeUnit,

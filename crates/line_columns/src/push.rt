@@ -62,9 +62,13 @@ fn push_word(out: &mut Vec<u8>, word: &[u8]) -> Result<(), AllocError>
 
 /// Appends the line that is made of these fields.
 pub(crate) fn push_row(out: &mut Vec<u8>, unit: TimeUnit, row: &Row<'_>) -> Result<(), AllocError>
-    ensures { OnOk result (out.new.items ≡ out.old.items ++ spec.row_text unit (record { port = row.now.port.now;
-        time = row.now.time.now; direction = row.now.direction.now; code = row.now.code.now;
-        delay = row.now.delay.now })) }
+    ensures { OnOk result (out.new.items ≡ out.old.items ++ spec.row_text unit (record {
+      port = row.now.port.now;
+      time = row.now.time.now;
+      direction = row.now.direction.now;
+      code = row.now.code.now;
+      delay = row.now.delay.now;
+    })) }
 {
     push_port(out, row.port)?;
     push_time(out, unit, row.time)?;

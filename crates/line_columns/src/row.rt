@@ -49,8 +49,13 @@ fn delay_at(separator: u8, place: Option<usize>, text: &[u8]) -> Option<&[u8]>
 #[tactic(auto, unfolding(crate::specs::Rows::row_of))]
 pub(crate) fn row_of<'a>(columns: &Columns, text: &'a [u8]) -> Option<Row<'a>>
     ensures { MatchOption result (spec.row_of columns.now text.now ≡ None) (λ row. spec.row_of columns.now text.now
-        ≡ Some (record { port = row.port.now; time = row.time.now; direction = row.direction.now; code = row.code.now;
-        delay = row.delay.now })) }
+        ≡ Some (record {
+          port = row.port.now;
+          time = row.time.now;
+          direction = row.direction.now;
+          code = row.code.now;
+          delay = row.delay.now;
+        })) }
 {
     let separator = columns.separator.octet();
     let port = port_at(separator, columns.port, text)?;
