@@ -1,5 +1,6 @@
 -- The command line (this profile's own rule), where FORM is `[--words] [--time] [--format text|json]`, of `explain`
--- without `--words`, MASK is `0`, `85` or `0x55`, and JUDGED `[--teqd T].. [--drift D] [--midway] [--mask MASK]`:
+-- without `--words`, MASK is `0`, `85` or `0x55`, JUDGED `[--teqd T].. [--drift D] [--midway] [--mask MASK]`, and LAID
+-- `[--columns COLUMNS] [--separator OCTET] [--time UNIT]`:
 -- `oltctl replay [--explain] [--progress] [--units] [--summary] [FORM] [FILE]`
 -- `oltctl storm [--explain] [--progress] [--format text|json] [FILE]`
 -- `oltctl drive [--explain] [--done] [--units] [FORM] FILE`
@@ -8,9 +9,9 @@
 -- `oltctl generate [--seed N] [--ports P] [--units U] [--events E] [--mistakes K]`
 -- `oltctl verify [--explain] [--at-least N] [--progress] [--words] [--units] [--format text|json]
 -- FILE [TRACE]`
--- `oltctl audit [JUDGED] [--side terminal|units] [--only RULES].. [--without RULES].. [--strict] [--words] [--units]
+-- `oltctl audit [JUDGED] [LAID] [--side terminal|units] [--only RULES].. [--without RULES].. [--strict] [--words] [--units]
 -- [--format text|json] [--progress] [LOG]`
--- `oltctl picture [--from FRAME] [--to FRAME] [JUDGED] [LOG]`
+-- `oltctl picture [--from FRAME] [--to FRAME] [JUDGED] [LAID] [LOG]`
 -- `oltctl waves [--from FRAME] [--to FRAME] [--midway] [--mask MASK] [LOG]`
 -- `oltctl explain [--mask MASK] [FORM] [--log] [--units] [--summary] [TRACE]`
 -- `oltctl decode [--up] [--both] [--names] [--mask MASK] [--format text|json] [HEX..]`
@@ -147,6 +148,7 @@ verify_rules formats =
 abbrev pub audit_rules : Choices → List Rule
 audit_rules choices =
     repeated_rule (codes "teqd") ∷ number_rule (codes "drift") ∷ flag_rule (codes "midway") ∷ mask_rule choices.masks
+    ∷ valued_rule (codes "columns") ∷ valued_rule (codes "separator") ∷ valued_rule (codes "time")
     ∷ choice_rule (codes "side") choices.sides ∷ repeated_rule (codes "only") ∷ repeated_rule (codes "without")
     ∷ flag_rule (codes "strict") ∷ flag_rule (codes "words") ∷ flag_rule (codes "units") ∷ format_rule choices.formats
     ∷ flag_rule (codes "progress") ∷ positional_rule (codes "log") ∷ []
@@ -154,7 +156,8 @@ audit_rules choices =
 abbrev pub picture_rules : Names → List Rule
 picture_rules masks =
     number_rule (codes "from") ∷ number_rule (codes "to") ∷ repeated_rule (codes "teqd") ∷ number_rule (codes "drift")
-    ∷ flag_rule (codes "midway") ∷ mask_rule masks ∷ positional_rule (codes "log") ∷ []
+    ∷ flag_rule (codes "midway") ∷ mask_rule masks ∷ valued_rule (codes "columns")
+    ∷ valued_rule (codes "separator") ∷ valued_rule (codes "time") ∷ positional_rule (codes "log") ∷ []
 
 abbrev pub waves_rules : Names → List Rule
 waves_rules masks =

@@ -147,6 +147,9 @@ AsksToVerify rows _ = ⊥
 -- the rows of `audit` ask to audit LOG, or standard input where it is left out, by these options as they are given
 pub record AsksForAudit (rows : List Row) (wanted : WantedAudit) : Type 0 where
   pub log : name_in wanted.log ≡ file_named (first_of (codes "log") rows)
+  pub columns : name_in wanted.columns ≡ first_of (codes "columns") rows
+  pub separator : name_in wanted.separator ≡ first_of (codes "separator") rows
+  pub time : name_in wanted.time ≡ first_of (codes "time") rows
   pub mask : wanted.mask ≡ mask_named (first_of (codes "mask") rows)
   pub teqd : option_map texts wanted.teqd ≡ all_of (codes "teqd") rows
   pub drift : IsNumber rows (codes "drift") wanted.drift
@@ -167,6 +170,9 @@ AsksToAudit rows _ = ⊥
 -- the rows of `picture` ask to draw LOG, or standard input where it is left out, by these options as they are given
 pub record AsksForPicture (rows : List Row) (wanted : Drawing) : Type 0 where
   pub log : name_in wanted.log ≡ file_named (first_of (codes "log") rows)
+  pub columns : name_in wanted.columns ≡ first_of (codes "columns") rows
+  pub separator : name_in wanted.separator ≡ first_of (codes "separator") rows
+  pub time : name_in wanted.time ≡ first_of (codes "time") rows
   pub from : IsNumber rows (codes "from") wanted.from
   pub to : IsNumber rows (codes "to") wanted.to
   pub mask : wanted.mask ≡ mask_named (first_of (codes "mask") rows)

@@ -265,6 +265,39 @@ pub(crate) fn midway<'a>(alloc: Global) -> Arg<'a>
     )
 }
 
+pub(crate) fn columns<'a>(alloc: Global) -> Arg<'a>
+    ensures { HasRule (valued_rule (codes "columns")) result }
+{
+    valued(
+        alloc,
+        "columns",
+        "COLUMNS",
+        "Which column is which, by number or name, as: time=2,dir=4,code=6,delay=7,port=1",
+    )
+}
+
+pub(crate) fn separator<'a>(alloc: Global) -> Arg<'a>
+    ensures { HasRule (valued_rule (codes "separator")) result }
+{
+    valued(
+        alloc,
+        "separator",
+        "OCTET",
+        "What parts columns: , or ; or tab; a comma if left out",
+    )
+}
+
+pub(crate) fn time_unit<'a>(alloc: Global) -> Arg<'a>
+    ensures { HasRule (valued_rule (codes "time")) result }
+{
+    valued(
+        alloc,
+        "time",
+        "UNIT",
+        "The unit of times without one: frames, ns, us, ms or s; frames if left out",
+    )
+}
+
 pub(crate) fn strict<'a>(alloc: Global) -> Arg<'a>
     ensures { HasRule (flag_rule (codes "strict")) result }
 {

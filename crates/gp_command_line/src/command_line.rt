@@ -5,9 +5,9 @@ ghost use Rattle.gp_command_line.specs.CommandLine.{IsFaultOf, IsParseOf, ReadsA
 ghost use Rattle.std.specs.String.{string_bytes};
 
 use crate::arguments::{
-    at_least, drift, explained, explained_always, file, files, flag, folders, form, format,
-    in_words, log, mask, midway, number, only, only_failed, progress, quiet, required, several,
-    side, strict, summary, teqd, timed, trace, units_told, up, valued, without,
+    at_least, columns, drift, explained, explained_always, file, files, flag, folders, form, format,
+    in_words, log, mask, midway, number, only, only_failed, progress, quiet, required, separator,
+    several, side, strict, summary, teqd, time_unit, timed, trace, units_told, up, valued, without,
 };
 use crate::help::{
     ABOUT_HELP, AUDIT_HELP, CHECK_HELP, DECODE_HELP, DRIVE_HELP, ENCODE_HELP, EXPLAIN_HELP,
@@ -272,6 +272,9 @@ fn audit<'a>(
         drift(alloc),
         midway(alloc),
         mask(alloc, masks),
+        columns(alloc),
+        separator(alloc),
+        time_unit(alloc),
     ]?;
     let told = vec![in alloc;
         side(alloc, sides),
@@ -313,6 +316,9 @@ fn picture<'a>(alloc: Global, masks: &'a [&'a str]) -> Result<Command<'a>, Alloc
         drift(alloc),
         midway(alloc),
         mask(alloc, masks),
+        columns(alloc),
+        separator(alloc),
+        time_unit(alloc),
         log(alloc),
     ]?;
     Command::new(alloc, "picture")

@@ -102,6 +102,12 @@ pub struct Explanation<'a> {
 pub struct Audit<'m, 'a> {
     /// The log of this file, or of standard input.
     pub log: Option<&'a str>,
+    /// Which column of a line is which.
+    pub columns: Option<&'a str>,
+    /// What parts columns.
+    pub separator: Option<&'a str>,
+    /// The unit of a time that has none.
+    pub time: Option<&'a str>,
     /// The mask of its codes.
     pub mask: Mask,
     /// The equalized delay of all ports, or of one each.
@@ -133,6 +139,12 @@ pub struct Audit<'m, 'a> {
 pub struct Drawing<'m, 'a> {
     /// Of the log of this file, or of standard input.
     pub log: Option<&'a str>,
+    /// Which column of a line is which.
+    pub columns: Option<&'a str>,
+    /// What parts columns.
+    pub separator: Option<&'a str>,
+    /// The unit of a time that has none.
+    pub time: Option<&'a str>,
     /// The first frame that is drawn.
     pub from: Option<u64>,
     /// The last one.
@@ -435,6 +447,9 @@ fn audit_of<'m, 'a>(found: &'m ArgMatches<'a>) -> Request<'m, 'a>
 {
     Request::Audit(Audit {
         log: file_of(found.get_str("log")),
+        columns: found.get_str("columns"),
+        separator: found.get_str("separator"),
+        time: found.get_str("time"),
         mask: mask_of(found.get_str("mask")),
         teqd: found.get_strs("teqd"),
         drift: number_at(found, "drift"),
@@ -456,6 +471,9 @@ fn picture_of<'m, 'a>(found: &'m ArgMatches<'a>) -> Request<'m, 'a>
 {
     Request::Picture(Drawing {
         log: file_of(found.get_str("log")),
+        columns: found.get_str("columns"),
+        separator: found.get_str("separator"),
+        time: found.get_str("time"),
         from: number_at(found, "from"),
         to: number_at(found, "to"),
         mask: mask_of(found.get_str("mask")),
