@@ -1,2 +1,4 @@
 pub mod Options
 pub mod Sides
+pub mod Lines
+pub mod Layouts
