@@ -31,6 +31,8 @@ pub record Runs (all : List (Option (List ℕ))) (said : List ℕ) (from to : Wa
   pub lines : to.lines ≡ from.lines + length texts
   pub heard : to.heard ≡ (from.heard || told)
   pub lead : Lead texts from.times to.times
+  pub frames : to.frames ≡ from.frames
+  pub mask : to.mask ≡ from.mask
   pub codes : CodesLead from.mask texts from.codes to.codes
 
 -- why a line ends it
@@ -52,6 +54,8 @@ pub record Halts (why : NoLine) (all : List (Option (List ℕ))) (said : List �
   pub lead : DoesAll Dumping from (wholes before) said heard
   pub held : to.fibre ≡ heard.fibre
   pub written : to.written ≡ heard.written
+  pub frames : to.frames ≡ from.frames
+  pub mask : to.mask ≡ from.mask
 
 abbrev pub Course : Option NoLine → List (Option (List ℕ)) → List ℕ → WavesState → WavesState → Type 0
 Course None all said from to = Runs all said from to
@@ -92,6 +96,8 @@ halted line ls state next new said first rest why nothing is fails parts h =
       lead = (silent, refl);
       held = held;
       written = same;
+      frames = ap (λ (s : WavesState). s.frames) end.1 ∙ ap (λ (s : WavesState). s.frames) is;
+      mask = ap (λ (s : WavesState). s.mask) end.1 ∙ ap (λ (s : WavesState). s.mask) is;
     } in
     subst (λ (e : Option NoLine). Course e (line ∷ ls) said state new) (sym (ap (λ (s : WavesState). s.ended) end.1 ∙ ended)) there
 
@@ -101,10 +107,10 @@ parted a b c said first rest p parts q = subst (λ (l : List ℕ). Grows a l c) 
 -- one line more at the head
 onto : (ended : Option NoLine) (a b c : WavesState) (text : List ℕ) (ls : List (Option (List ℕ))) (said first rest : List ℕ) (line : LogLine)
     → Reads text (Ok line) → b.lines ≡ a.lines + 1 → b.heard ≡ (a.heard || not (says_nothing line))
-    → b.times ≡ times_after line a.times → b.mask ≡ a.mask → b.codes ≡ codes_after a.mask line a.codes
+    → b.times ≡ times_after line a.times → b.frames ≡ a.frames → b.mask ≡ a.mask → b.codes ≡ codes_after a.mask line a.codes
     → Grows a.written first b.written → Says a (Some text) first b → said ≡ first ++ rest → Course ended ls rest b c
     → Course ended (Some text ∷ ls) said a c
-onto None a b c text ls said first rest line reads one heard timed masked coded grows says parts h = record {
+onto None a b c text ls said first rest line reads one heard timed framed masked coded grows says parts h = record {
   texts = text ∷ h.texts;
   told = not (says_nothing line) || h.told;
   all_is = ap (λ (l : List (Option (List ℕ))). Some text ∷ l) h.all_is;
@@ -113,6 +119,8 @@ onto None a b c text ls said first rest line reads one heard timed masked coded 
   lines = let many = h.lines in omega (arith, many, one);
   heard = h.heard ∙ ap (λ (t : Bool). t || h.told) heard ∙ or_assoc a.heard (not (says_nothing line)) h.told;
   lead = (line, reads, subst (λ (t : TimesState). Lead h.texts t c.times) timed h.lead);
+  frames = h.frames ∙ framed;
+  mask = h.mask ∙ masked;
   codes = (
     line,
     reads,
@@ -120,7 +128,7 @@ onto None a b c text ls said first rest line reads one heard timed masked coded 
         (subst (λ (s : Codes). CodesLead b.mask h.texts s c.codes) coded h.codes),
   );
 }
-onto (Some why) a b c text ls said first rest line reads one heard timed masked coded grows says parts h = record {
+onto (Some why) a b c text ls said first rest line reads one heard timed framed masked coded grows says parts h = record {
   before = text ∷ h.before;
   line = h.line;
   rest = h.rest;
@@ -133,6 +141,8 @@ onto (Some why) a b c text ls said first rest line reads one heard timed masked 
   lead = (first, rest, b, says, h.lead, parts);
   held = h.held;
   written = h.written;
+  frames = h.frames ∙ framed;
+  mask = h.mask ∙ masked;
 }
 
 none_done : (n : ℕ) → n ≡ n + 0
@@ -147,7 +157,7 @@ text_course text ls old next new said first rest none (inl told) parts h more =
     subst (λ (e : Option NoLine). SaysFrom e old (Some text) first next) (sym none) (inl told) in
     let before : Course new.ended ls rest next new = more (ap (λ (s : WavesState). s.ended) is ∙ none) in
     onto new.ended old next new text ls said first rest told.0 told.1 (ap (λ (s : WavesState). s.lines) is) (ap (λ (s : WavesState). s.heard) is)
-    (ap (λ (s : WavesState). s.times) is) (ap (λ (s : WavesState). s.mask) is) (ap (λ (s : WavesState). s.codes) is)
+    (ap (λ (s : WavesState). s.times) is) (ap (λ (s : WavesState). s.frames) is) (ap (λ (s : WavesState). s.mask) is) (ap (λ (s : WavesState). s.codes) is)
     (spills_grow told.2.held old.written first next.fibre.held next.written told.4) says parts before
 text_course text ls old next new said first rest none (inr none_of) parts h more =
     halted (Some text) ls old next new said first rest NotALine none_of.1 none_of.2 (refl, none_of.0) parts h
@@ -166,6 +176,8 @@ course [] old new said none h =
       lines = none_done old.lines;
       heard = sym (or-false old.heard);
       lead = refl;
+      frames = refl;
+      mask = refl;
       codes = refl;
     } in
     let here : Course old.ended [] said old old = subst (λ (e : Option NoLine). Course e [] said old old) (sym none) there in

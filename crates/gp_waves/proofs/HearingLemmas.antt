@@ -1,12 +1,14 @@
 -- What is heard at one of several ports.
-use Rattle.std.proofs.Common.{OnOk, Result, Ok, Err, ◌≡◌, ◌<◌, ◌≤◌, ℕ, Bool, true, false, List, refl, sym, ap, subst, ◌∙◌, arith, length}
-use Rattle.std.specs.Prelude.{map, nat_lt, slice_index_or, slice_set}
+use Rattle.std.proofs.Common.{OnOk, Result, Ok, Err, ◌≡◌, ◌<◌, ◌≤◌, ◌+◌, ℕ, suc, Bool, true, false, List, refl, sym, ap, subst, ◌∙◌, arith, length}
+use Rattle.std.specs.Prelude.{if◌then◌else◌, map, nat_lt, slice_index_or, slice_set}
 use Rattle.std.proofs.Math.ListN.{get_or-map}
 use Rattle.std.proofs.lemmas.List.{get_or_default, length-map, map-set}
+use Rattle.gp_ploam.specs.declared.check.Mask.{Mask}
+use Rattle.gp_times.specs.declared.frames.Frames.{Frames}
 use Rattle.gp_waves.specs.declared.port.Port.{Port}
 use Rattle.gp_waves.specs.Held.{HeldState}
 use Rattle.gp_waves.specs.Port.{PortHeld, PortVars, both, vars_of}
-use Rattle.gp_waves.specs.Hearing.{AtPort, FibreState, LogsUnless, no_vars}
+use Rattle.gp_waves.specs.Hearing.{AtPort, FibreState, Finishes, LogsUnless, finished_at, finished_in, finished_upto, no_vars}
 
 abbrev fibre : List PortVars → HeldState → FibreState
 fibre ports held = record { ports = ports; held = held }
@@ -65,3 +67,30 @@ falls_at falls number does old is = subst (λ (b : Bool). LogsUnless b number do
 pub logs_none : (falls : Bool) (number : ℕ) (does : PortHeld → PortHeld → Type 0) (old new : FibreState) → falls ≡ false → AtPort number does old new
     → LogsUnless falls number does old new
 logs_none falls number does old new isnt d = subst (λ (b : Bool). LogsUnless b number does old new) (sym isnt) d
+
+-- ---- behind the last line
+
+finished_as : (low : Bool) (frames : Frames) (mask : Mask) (number : ℕ) (old new : FibreState) → nat_lt number (length old.ports) ≡ low
+    → AtPort number (Finishes frames mask number) old new → new ≡ (if low then finished_in frames mask number old else old)
+finished_as true frames mask number old new is at =
+    let next = at.at is in
+    next.2 ∙ ap (λ (p : PortHeld). fibre (slice_set old.ports number p.vars) p.held) next.1
+finished_as false frames mask number old new is at = at.none is
+
+one_on : (number : ℕ) → suc number ≡ number + 1
+one_on number = omega arith
+
+-- at one more
+pub finished_more : (frames : Frames) (mask : Mask) (seen_frames : Frames) (seen_mask : Mask) (number : ℕ) (from old new : FibreState)
+    → old ≡ finished_upto number frames mask from → seen_frames ≡ frames → seen_mask ≡ mask
+    → AtPort number (Finishes seen_frames seen_mask number) old new → new ≡ finished_upto (number + 1) frames mask from
+finished_more frames mask seen_frames seen_mask number from old new is f m at =
+    let here : AtPort number (Finishes frames mask number) old new =
+    subst (λ (x : Mask). AtPort number (Finishes frames x number) old new) m
+    (subst (λ (x : Frames). AtPort number (Finishes x seen_mask number) old new) f at) in
+    finished_as (nat_lt number (length old.ports)) frames mask number old new refl here
+    ∙ ap (λ (s : FibreState). finished_at frames mask number s) is ∙ ap (λ (n : ℕ). finished_upto n frames mask from) (one_on number)
+
+pub finished_all : (frames : Frames) (mask : Mask) (number : ℕ) (from old : FibreState) → number ≡ 16 → old ≡ finished_upto number frames mask from
+    → old ≡ finished_upto 16 frames mask from
+finished_all frames mask number from old all is = is ∙ ap (λ (n : ℕ). finished_upto n frames mask from) all

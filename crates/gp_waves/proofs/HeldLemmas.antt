@@ -1,6 +1,6 @@
 -- Changes that are held back, and what has to be declared for them.
 use Rattle.std.proofs.Common.{◌≡◌, ◌<◌, ◌≤◌, ◌+◌, ℕ, Bool, true, false, List, length, Option, None, Some, refl, sym, ap, subst, ◌∙◌, arith, eqb, eqb-true, inl, inr, slice_index_or, slice_set}
-use Rattle.std.specs.Prelude.{if◌then◌else◌, [], ◌∷◌, ◌-◌, nat_lt, nat_le, is_some, map, zero, suc}
+use Rattle.std.specs.Prelude.{if◌then◌else◌, [], ◌∷◌, ◌-◌, ◌||◌, nat_lt, nat_le, is_some, map, zero, suc}
 use Rattle.std.proofs.Math.Seq.{map-set_same}
 use Rattle.std.proofs.Math.ListN.{get_or-map}
 use Rattle.std.proofs.lemmas.Bool.{cases_Bool, eqb-false, lt-ltb}
@@ -12,7 +12,7 @@ use Rattle.gp_waves.specs.declared.held.What.{What}
 use Rattle.gp_waves.specs.declared.held.What.TheVariants as what
 use Rattle.gp_waves.specs.declared.held.Due.{Due}
 use Rattle.gp_waves.specs.declared.held.HeldChange.{HeldChange}
-use Rattle.gp_waves.specs.Held.{AreDeclared, HasVariable, HeldState, IsWithin, Takes, change_of, earlier, first_port, first_upto, port_if_any, queue_at}
+use Rattle.gp_waves.specs.Held.{AreDeclared, HasVariable, HeldState, IsWithin, Takes, change_of, earlier, first_port, first_upto, port_if_any, queue_at, wider}
 use Rattle.gp_waves.specs.Queue.{QueueState, fits, no_queue, time_of_first}
 use Rattle.gp_waves.specs.Ports.{all_ports}
 
@@ -93,6 +93,32 @@ wide_declared held declared number all wide (change.Port port to) has =
     some_within (lanes_of held port) (lanes_of declared port) (wide_at held declared port (λ i low. wide i (omega (arith, all, low)))) has.0
 wide_declared held declared number all wide (change.Unit port lane to) has =
     has_within lane (lanes_of held port) (lanes_of declared port) (wide_at held declared port (λ i low. wide i (omega (arith, all, low)))) has.0
+
+-- a port is told with these lanes, behind those before it
+pub told_more : (declared : List (Option ℕ)) (number : ℕ) (lanes : Option ℕ) (tells : ℕ → Bool) → number < length declared
+    → ((i : ℕ) → i < number → is_some (slice_index_or declared i None) ≡ tells i) → is_some lanes ≡ tells number
+    → (i : ℕ) → i < number + 1 → is_some (slice_index_or (slice_set declared number lanes) i None) ≡ tells i
+told_more declared number lanes tells low before told i within =
+    elim (cases_Bool (eqb i number)) [
+      | inl is ↦
+          subst (λ (n : ℕ). is_some (slice_index_or (slice_set declared number lanes) n None) ≡ tells n) (sym (eqb-true i number is))
+          (ap (λ (l : Option ℕ). is_some l) (get_or-set_same declared number lanes None low) ∙ told)
+      | inr isnt ↦
+          ap (λ (l : Option ℕ). is_some l) (get_or-set_other declared number i lanes None (eqb-false i number isnt))
+          ∙ before i (let other = eqb-false i number isnt in omega (arith, within, other))
+    ]
+
+wider_some : (first second : Option ℕ) → is_some (wider first second) ≡ (is_some first || is_some second)
+wider_some None second = refl
+wider_some (Some first) None = refl
+wider_some (Some first) (Some second) = refl
+
+-- what has to be declared for those that are held back, and what lines told
+pub wider_told : (held told lanes all : Option ℕ) (is_told : Bool) → all ≡ wider lanes told → lanes ≡ held → is_some told ≡ is_told
+    → is_some all ≡ (is_some held || is_told)
+wider_told held told lanes all is_told is same tells =
+    ap (λ (l : Option ℕ). is_some l) is ∙ wider_some lanes told ∙ ap (λ (l : Option ℕ). is_some l || is_some told) same
+    ∙ ap (λ (b : Bool). is_some held || b) tells
 
 -- the same, where the lists were seen before
 pub still_declared : (held queues ports declared : List (Option ℕ)) → AreDeclared held ports → queues ≡ held → declared ≡ ports → AreDeclared queues declared

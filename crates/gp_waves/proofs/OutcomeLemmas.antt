@@ -31,6 +31,7 @@ use Rattle.gp_times.specs.declared.frames.Frames.{Frames}
 use Rattle.gp_times.specs.Lines.{AreRead, IsUnread, Lead}
 use Rattle.gp_times.specs.Times.{TimesState, outside_of, times_begun}
 use Rattle.gp_waves.specs.Dumping.{Dumping, IsFull, Says, WavesState, has_ended, opened}
+use Rattle.gp_waves.specs.Hearing.{FibreState}
 use Rattle.gp_waves.specs.Writing.{IsDump, Rests, Written, all_ports}
 use Rattle.gp_waves.proofs.WritingLemmas.{Ends, EndsAs, Grows, GrowsAs, rests_end}
 use Rattle.gp_waves.specs.Outcome.{DumpsWaves, GetsDump, IsBegun, IsFound, IsFoundBy, IsNone, IsRefused, IsRest, IsUnfinished, WritesRest}
@@ -139,6 +140,7 @@ pub record IsOpened (frames : Frames) (mask : Mask) (state : WavesState) : Type 
   pub heard : state.heard ≡ false
   pub ended : state.ended ≡ None
   pub times : state.times ≡ times_begun
+  pub frames_is : state.frames ≡ frames
   pub mask_is : state.mask ≡ mask
   pub codes : state.codes ≡ no_codes
   pub begun : state.written.begun ≡ false
@@ -150,6 +152,7 @@ opens frames mask state is = record {
   heard = ap (λ (s : WavesState). s.heard) is;
   ended = ap (λ (s : WavesState). s.ended) is;
   times = ap (λ (s : WavesState). s.times) is;
+  frames_is = ap (λ (s : WavesState). s.frames) is;
   mask_is = ap (λ (s : WavesState). s.mask) is;
   codes = ap (λ (s : WavesState). s.codes) is;
   begun = ap (λ (s : WavesState). s.written.begun) is;
@@ -164,6 +167,15 @@ course_grows : (ended : Option NoLine) (ls : List (Option (List ℕ))) (said : L
 course_grows None ls said from to c = c.grown
 course_grows (Some why) ls said from to c = c.grown
 
+-- lines leave which frames are dumped, and how codes are read
+abbrev AreOf : Frames → Mask → WavesState → Type 0
+AreOf frames mask state = (state.frames ≡ frames) × (state.mask ≡ mask)
+
+stay : (frames : Frames) (mask : Mask) (ended : Option NoLine) (ls : List (Option (List ℕ))) (said : List ℕ) (old state : WavesState) → IsOpened frames mask old
+    → Course ended ls said old state → AreOf frames mask state
+stay frames mask None ls said old state o c = (c.frames ∙ o.frames_is, c.mask ∙ o.mask_is)
+stay frames mask (Some why) ls said old state o c = (c.frames ∙ o.frames_is, c.mask ∙ o.mask_is)
+
 -- ---- behind the last line
 
 -- the writer got the dump of some lines, wherever what was said to them led
@@ -174,22 +186,26 @@ Gets frames mask before after late old said state =
 
 module _ {R W : Type 0} (frames : Frames) (mask : Mask) (from to : SourceState R) (before mid after : SinkState W) where
   -- the rest was written behind what was said to lines
-  dumped : (old state last : WavesState) (said text : List ℕ) → IsOpened frames mask old → Grows old.written said state.written → IsRest state last text
-      → Appends before.held mid.held (before.gathered ++ said) → KeepsNothing mid → WritesWhole {T = Unit {0}} {E = WriteStopped} mid after text (Ok (tt {0}))
+  dumped : (old state last : WavesState) (said text : List ℕ) → IsOpened frames mask old → Grows old.written said state.written → AreOf frames mask state
+      → IsRest state last text → Appends before.held mid.held (before.gathered ++ said) → KeepsNothing mid → WritesWhole {T = Unit {0}} {E = WriteStopped} mid after text (Ok (tt {0}))
       → Gets frames mask before after last.written.late old said state
-  dumped old state last said text o grown rest written kept w heard lines lead held same =
+  dumped old state last said text o grown are rest written kept w heard lines lead held same =
       let all = before.gathered ++ said in
       let both = Appends-trans before.held mid.held after.held all text written (takes_whole mid after text w.gives.ok kept.0 w.empty) in
+      let rests : Rests frames mask state.fibre state.written text last.written =
+      subst (λ (m : Mask). Rests frames m state.fibre state.written text last.written) are.1
+      (subst (λ (f : Frames). Rests f state.mask state.fibre state.written text last.written) are.0 rest.rests) in
       record {
         dump = said ++ text;
         whole = record {
-          whole = whole_dump old.written state.written said text o.begun grown (rests_end state.written text last.written rest.rests);
+          whole = whole_dump old.written state.written said text o.begun grown (rests_end state.frames state.mask state.fibre state.written text last.written rest.rests);
           first = said;
           heard = heard;
           lead = subst (λ (s : WavesState). DoesAll Dumping s lines said heard) o.is lead;
           rest = text;
           end = last.written;
-          rests = subst (λ (v : Written). Rests v text last.written) same rest.rests;
+          rests = subst (λ (v : Written). Rests frames mask heard.fibre v text last.written) same
+              (subst (λ (f : FibreState). Rests frames mask f state.written text last.written) held rests);
           text = refl;
           count = refl;
         };
@@ -209,7 +225,7 @@ module _ {R W : Type 0} (frames : Frames) (mask : Mask) (from to : SourceState R
         bytes = bytes;
         came = came;
         dump = said ++ text;
-        whole = whole_dump old.written state.written said text o.begun grown (rests_end state.written text last.written rest.rests);
+        whole = whole_dump old.written state.written said text o.begun grown (rests_end state.frames state.mask state.fibre state.written text last.written rest.rests);
         written = all ++ p.written;
         unwritten = p.unwritten;
         all = append_assoc all p.written p.unwritten ∙ ap (λ (l : List ℕ). all ++ l) (sym parts) ∙ append_assoc before.gathered said text;
@@ -329,17 +345,17 @@ module _ {R W : Type 0} (frames : Frames) (mask : Mask) (from to : SourceState R
   dumped_as Whole old state last answer o s w found =
       let c = started frames mask old state (map (handed longest_line) (lines_of s.bytes)) s.said o s.spoken in
       let grown = course_grows state.ended _ s.said old state c in
-      found_whole state.ended old state s.bytes s.said last.written.late answer o s.read s.spoken c (dumped old state last s.said w.0 o grown w.1 s.written s.kept w.2)
+      found_whole state.ended old state s.bytes s.said last.written.late answer o s.read s.spoken c (dumped old state last s.said w.0 o grown (stay frames mask state.ended _ s.said old state o c) w.1 s.written s.kept w.2)
       (found_before last.ended state.ended state last last.written.late answer w.1.ended w.1.lines w.1.heard w.1.times w.1.codes found)
   dumped_as Open old state last answer o s w found =
       let c = started frames mask old state (map (handed longest_line) (lines_of s.bytes)) s.said o s.spoken in
       let grown = course_grows state.ended _ s.said old state c in
-      found_whole state.ended old state s.bytes s.said last.written.late answer o s.read s.spoken c (dumped old state last s.said w.0 o grown w.1 s.written s.kept w.2)
+      found_whole state.ended old state s.bytes s.said last.written.late answer o s.read s.spoken c (dumped old state last s.said w.0 o grown (stay frames mask state.ended _ s.said old state o c) w.1 s.written s.kept w.2)
       (found_before last.ended state.ended state last last.written.late answer w.1.ended w.1.lines w.1.heard w.1.times w.1.codes found)
   dumped_as Over old state last answer o s w found =
       let c = started frames mask old state (map (handed longest_line) (ended_lines s.0.bytes)) s.0.said o s.0.spoken in
       let grown = course_grows state.ended _ s.0.said old state c in
-      found_over state.ended old state s.0.bytes s.0.said last.written.late answer s.1 o s.0.read c (dumped old state last s.0.said w.0 o grown w.1 s.0.written s.0.kept w.2)
+      found_over state.ended old state s.0.bytes s.0.said last.written.late answer s.1 o s.0.read c (dumped old state last s.0.said w.0 o grown (stay frames mask state.ended _ s.0.said old state o c) w.1 s.0.written s.0.kept w.2)
       (found_before last.ended state.ended state last last.written.late answer w.1.ended w.1.lines w.1.heard w.1.times w.1.codes found)
 
   -- the rest could not be written where the input was read
@@ -395,7 +411,7 @@ module _ {R W : Type 0} (frames : Frames) (mask : Mask) (from to : SourceState R
         bytes = e.bytes;
         came = e.read;
         late = last.written.late;
-        dumped = dumped old state last e.said w.0 o grown w.1 e.written e.kept w.2 state (map (handed longest_line) (ended_lines e.bytes)) e.spoken refl refl;
+        dumped = dumped old state last e.said w.0 o grown (stay frames mask state.ended _ e.said old state o c) w.1 e.written e.kept w.2 state (map (handed longest_line) (ended_lines e.bytes)) e.spoken refl refl;
         failed = s.failed refl;
       }
 

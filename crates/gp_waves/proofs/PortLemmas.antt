@@ -53,8 +53,8 @@ keeps_one_if (Err e) number time lane to old new is = tt
 abbrev ending : Pulse → ℕ → Ending
 ending pulse end = Some (pulse, end)
 
-abbrev vars : Pulses → ℕ → Bool → Option ℕ → PortVars
-vars pulses time level asked = record { pulses = pulses; time = time; level = level; asked = asked }
+abbrev vars : Pulses → ℕ → Bool → Bool → Option ℕ → PortVars
+vars pulses time level told asked = record { pulses = pulses; time = time; level = level; is_told = told; asked = asked }
 
 abbrev ports : PortVars → HeldState → PortHeld
 ports of held = record { vars = of; held = held }
@@ -111,14 +111,16 @@ none_ends scope time count old pulses left held first here none is was low =
     ap (λ (p : Pulses). stands p held) (was ∙ ap (λ (e : Ending). left_behind e pulses) past)
     ∙ here ∙ sym (all_stay count scope time old low (ap (λ (s : Standing). first_past s.pulses time) (sym here) ∙ past))
 
-pub ended_is : (scope : Scope) (at : ℕ) (old : PortHeld) (pulses : Pulses) (held : HeldState) (time : ℕ) (level : Bool) (asked : Option ℕ)
-    → stands pulses held ≡ ends_upto 5 scope at (stands old.vars.pulses old.held) → time ≡ old.vars.time → level ≡ old.vars.level → asked ≡ old.vars.asked
-    → ports (vars pulses time level asked) held ≡ ended scope at old
-ended_is scope at old pulses held time level asked all same level_is asked_is =
-    ap (λ (s : Standing). ports (vars s.pulses time level asked) s.held) all
-    ∙ ap (λ (n : ℕ). let s : Standing = ends_upto 5 scope at (stands old.vars.pulses old.held) in ports (vars s.pulses n level asked) s.held) same
-    ∙ ap (λ (b : Bool). let s : Standing = ends_upto 5 scope at (stands old.vars.pulses old.held) in ports (vars s.pulses old.vars.time b asked) s.held) level_is
-    ∙ ap (λ (o : Option ℕ). let s : Standing = ends_upto 5 scope at (stands old.vars.pulses old.held) in ports (vars s.pulses old.vars.time old.vars.level o) s.held) asked_is
+pub ended_is : (scope : Scope) (at : ℕ) (old : PortHeld) (pulses : Pulses) (held : HeldState) (time : ℕ) (level told : Bool) (asked : Option ℕ)
+    → stands pulses held ≡ ends_upto 5 scope at (stands old.vars.pulses old.held) → time ≡ old.vars.time → level ≡ old.vars.level → told ≡ old.vars.is_told
+    → asked ≡ old.vars.asked → ports (vars pulses time level told asked) held ≡ ended scope at old
+ended_is scope at old pulses held time level told asked all same level_is told_is asked_is =
+    let of = old.vars in
+    ap (λ (s : Standing). ports (vars s.pulses time level told asked) s.held) all
+    ∙ ap (λ (n : ℕ). let s : Standing = ends_upto 5 scope at (stands of.pulses old.held) in ports (vars s.pulses n level told asked) s.held) same
+    ∙ ap (λ (b : Bool). let s : Standing = ends_upto 5 scope at (stands of.pulses old.held) in ports (vars s.pulses of.time b told asked) s.held) level_is
+    ∙ ap (λ (b : Bool). let s : Standing = ends_upto 5 scope at (stands of.pulses old.held) in ports (vars s.pulses of.time of.level b asked) s.held) told_is
+    ∙ ap (λ (o : Option ℕ). let s : Standing = ends_upto 5 scope at (stands of.pulses old.held) in ports (vars s.pulses of.time of.level of.is_told o) s.held) asked_is
 
 pub ended_at_five : (scope : Scope) (at count : ℕ) (old first : Standing) → count ≡ 5 → old ≡ ends_upto count scope at first → old ≡ ends_upto 5 scope at first
 ended_at_five scope at count old first five is = is ∙ ap (λ (n : ℕ). ends_upto n scope at first) five

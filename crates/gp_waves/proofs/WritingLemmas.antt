@@ -5,7 +5,10 @@ use Rattle.gp_dump.specs.Dump.{Continues, DumpState, is_declared}
 use Rattle.gp_dump.specs.Head.{head_text}
 use Rattle.gp_dump.proofs.PartLemmas.{continues_more, continues_none, put_continues}
 use Rattle.gp_waves.specs.declared.held.Due.{Due}
-use Rattle.gp_waves.specs.Held.{HeldState, Takes, TakesEach, first_port, is_full}
+use Rattle.gp_waves.specs.Held.{AreDeclared, HeldState, Takes, TakesEach, first_port, held_lanes, is_full}
+use Rattle.gp_waves.specs.Hearing.{ArePorts, FibreState, finished}
+use Rattle.gp_ploam.specs.declared.check.Mask.{Mask}
+use Rattle.gp_times.specs.declared.frames.Frames.{Frames}
 use Rattle.gp_waves.specs.Writing.{AllDeclared, IsDump, IsLast, Rests, Spills, SpillsAll, Written, all_ports, due_text, dues_text, head_if_none, opened_at, ports_written, put_due, put_dues}
 use Rattle.gp_waves.specs.Drained.{Drained, Drains, DrainsAll}
 
@@ -137,8 +140,10 @@ rests_end_as false held dump latest late ports said behind to all is =
     let e = grown_ends to.begun first to.dump behind (all_grow held (written_as true first latest late) behind to all) in
     (ports, e.0, record { behind = behind; head = is; continues = e.1 })
 
-pub rests_end : (from : Written) (said : List ℕ) (to : Written) → Rests from said to → Ends from said
-rests_end from said to r = rests_end_as from.begun r.held from.dump from.latest from.late r.ports said r.behind to r.all r.text
+pub rests_end : (frames : Frames) (mask : Mask) (fibre : FibreState) (from : Written) (said : List ℕ) (to : Written) → Rests frames mask fibre from said to
+    → Ends from said
+rests_end frames mask fibre from said to r =
+    rests_end_as from.begun (finished frames mask fibre).held from.dump from.latest from.late r.ports said r.behind to r.all r.text
 
 -- ---- changes that are taken one after another
 
@@ -224,14 +229,17 @@ spilled old from out new to next none d = record {
 }
 
 -- the rest, in a new buffer
-pub rested : (held : HeldState) (from opened : Written) (ports : List (Option ℕ)) (out head : List ℕ) (to : Written) (next : List ℕ) → out ≡ []
-    → opened ≡ opened_at ports from → head ≡ out ++ head_if_none ports from → DrainsAll held opened head to next → Rests from next to
-rested held from opened ports out head to next none opens begun d = record {
+pub rested : (frames : Frames) (mask : Mask) (fibre end : FibreState) (from opened : Written) (ports : List (Option ℕ)) (out head : List ℕ) (to : Written)
+    (next : List ℕ) → out ≡ [] → end ≡ finished frames mask fibre → ArePorts end ports → AreDeclared (held_lanes end.held) ports
+    → opened ≡ opened_at ports from → head ≡ out ++ head_if_none ports from → DrainsAll end.held opened head to next → Rests frames mask fibre from next to
+rested frames mask fibre end from opened ports out head to next none is are declared opens begun d = record {
   ports = ports;
-  held = held;
+  are = subst (λ (f : FibreState). ArePorts f ports) is are;
+  declared = subst (λ (f : FibreState). AreDeclared (held_lanes f.held) ports) is declared;
   behind = dues_text opened d.0;
-  all = subst (λ (w : Written). SpillsAll held w (dues_text opened d.0) to) opens
-      (record { dues = d.0; left = d.1; taken = d.2.taken; last = d.3; declared = d.2.declared; text = refl; put = d.2.put });
+  all = subst (λ (f : FibreState). SpillsAll f.held (opened_at ports from) (dues_text opened d.0) to) is
+      (subst (λ (w : Written). SpillsAll end.held w (dues_text opened d.0) to) opens
+      (record { dues = d.0; left = d.1; taken = d.2.taken; last = d.3; declared = d.2.declared; text = refl; put = d.2.put }));
   text = d.2.text ∙ ap (λ (l : List ℕ). l ++ dues_text opened d.0) (begun ∙ ap (λ (l : List ℕ). l ++ head_if_none ports from) none);
 }
 

@@ -32,7 +32,7 @@ pub record IsDumpOf (frames : Frames) (mask : Mask) (lines : List (Option (List 
   -- what is written behind them
   pub rest : List ℕ
   pub end : Written
-  pub rests : Rests heard.written rest end
+  pub rests : Rests frames mask heard.fibre heard.written rest end
   pub text : dump ≡ first ++ rest
   pub count : late ≡ end.late
 
@@ -116,7 +116,7 @@ DumpsWaves frames mask from to before after (Err (Lines (faults.Line fault))) =
 
 -- the rest of a dump behind what is written
 pub record IsRest (old new : WavesState) (text : List ℕ) : Type 0 where
-  pub rests : Rests old.written text new.written
+  pub rests : Rests old.frames old.mask old.fibre old.written text new.written
   pub lines : new.lines ≡ old.lines
   pub heard : new.heard ≡ old.heard
   pub ended : new.ended ≡ old.ended

@@ -30,16 +30,24 @@ use Rattle.gp_waves.specs.declared.pulses.Pulses.{Pulses}
 use Rattle.gp_waves.specs.Held.{HeldState, kept}
 use Rattle.gp_waves.specs.Pulses.{Ending, first_past, pulse_begun, window_shortened, with_end}
 
--- what stands on a port, its time, the level of its frames, and whom the window asks that was opened last
+-- what stands on a port, its time, the level of its frames, whether a line told of it, and whom the window asks that was
+-- opened last
 pub record PortVars : Type 0 where
   pub pulses : Pulses
   pub time : ℕ
   pub level : Bool
+  pub is_told : Bool
   pub asked : Option ℕ
 
 abbrev pub vars_of : Port → PortVars
 vars_of kept_port =
-    record { pulses = kept_port.pulses; time = kept_port.time; level = kept_port.level; asked = kept_port.asked }
+    record {
+      pulses = kept_port.pulses;
+      time = kept_port.time;
+      level = kept_port.level;
+      is_told = kept_port.is_told;
+      asked = kept_port.asked;
+    }
 
 -- the same, and the changes that are held back
 pub record PortHeld : Type 0 where
@@ -114,7 +122,7 @@ last_time = 18446744073709551615
 abbrev pub Advances : Scope → ℕ → PortHeld → PortHeld → Type 0
 Advances scope time old new =
     (shown : HeldState) × KeepsUnits scope.port old.held shown
-    × (new ≡ ended scope time (record { vars = record old.vars { time = time }; held = shown }))
+    × (new ≡ ended scope time (record { vars = record old.vars { time = time; is_told = true }; held = shown }))
 
 -- what a grant asks for, and whom
 abbrev pub kind_of : Grant → WindowKind

@@ -6,7 +6,10 @@ use Rattle.gp_dump.specs.Head.{head_text}
 use Rattle.gp_dump.specs.Text.{change_text}
 use Rattle.gp_waves.specs.declared.held.Due.{Due}
 pub use Rattle.gp_waves.specs.Ports.{all_ports}
-use Rattle.gp_waves.specs.Held.{HeldState, TakesEach, first_port, is_full, most_counted, one_more}
+use Rattle.gp_ploam.specs.declared.check.Mask.{Mask}
+use Rattle.gp_times.specs.declared.frames.Frames.{Frames}
+use Rattle.gp_waves.specs.Held.{AreDeclared, HeldState, TakesEach, first_port, held_lanes, is_full, most_counted, one_more}
+use Rattle.gp_waves.specs.Hearing.{ArePorts, FibreState, finished}
 
 -- whether the declarations are written, what stands behind them, the latest time of a change, and how many changes
 -- stand at a later time than theirs
@@ -85,13 +88,15 @@ pub record SpillsAll (old : HeldState) (from : Written) (said : List ℕ) (to : 
   pub text : said ≡ dues_text from dues
   pub put : to ≡ put_dues from dues
 
--- the rest of a dump: where nothing was written the declarations of these ports, and all changes, with those of what
--- ends behind the last line
-pub record Rests (from : Written) (said : List ℕ) (to : Written) : Type 0 where
+-- the rest of a dump: what still stands ends; where nothing was written the declarations of the ports of which lines
+-- told, each with the lanes of all changes that were held back, and then all changes
+pub record Rests (frames : Frames) (mask : Mask) (fibre : FibreState) (from : Written) (said : List ℕ) (to : Written)
+    : Type 0 where
   pub ports : List (Option ℕ)
-  pub held : HeldState
+  pub are : ArePorts (finished frames mask fibre) ports
+  pub declared : AreDeclared (held_lanes (finished frames mask fibre).held) ports
   pub behind : List ℕ
-  pub all : SpillsAll held (opened_at ports from) behind to
+  pub all : SpillsAll (finished frames mask fibre).held (opened_at ports from) behind to
   pub text : said ≡ head_if_none ports from ++ behind
 
 -- a whole dump, of some ports and up to some time

@@ -1,5 +1,5 @@
 //! What is heard of all ports, and the changes that are held back.
-ghost use Rattle.std.specs.Prelude.{◌≡◌, IfOk, IfNone, IfSome, None, OnOk, map, replicate};
+ghost use Rattle.std.specs.Prelude.{◌≡◌, IfOk, IfNone, IfSome, None, OnOk, is_some, map, replicate};
 ghost use Rattle.gp_machine.specs.Config.{max_ports};
 ghost use Rattle.gp_waves.specs.Port as ports;
 ghost use Rattle.gp_waves.specs.Hearing as heard;
@@ -142,26 +142,44 @@ impl Waves {
         }
     }
 
+    /// Ends what still stands at a port.
+    fn finish_at(&mut self, number: u8) -> Result<(), AllocError>
+        ensures options { self.new.options ≡ self.old.options }
+        ensures finished { OnOk result (heard.AtPort number
+            (heard.Finishes self.old.options.frames self.old.options.mask number)
+            (heard.fibre_of self.old) (heard.fibre_of self.new)) }
+    {
+        let scope = scope_of(&self.options, number);
+        match self.ports.get_mut(usize::from(number)) {
+            Some(port) => port.finish(&mut self.held, &scope),
+            None => Ok(()),
+        }
+    }
+
     /// Ends what still stands at each port.
-    pub(crate) fn finish(&mut self) -> Result<(), AllocError> {
-        let held = &mut self.held;
-        let mut number = 0u8;
-        for port in self.ports.iter_mut() {
-            port.finish(held, &scope_of(&self.options, number))?;
-            number = number.saturating_add(1);
+    pub(crate) fn finish(&mut self) -> Result<(), AllocError>
+        ensures options { self.new.options ≡ self.old.options }
+        ensures finished { OnOk result (heard.fibre_of self.new
+            ≡ heard.finished self.old.options.frames self.old.options.mask (heard.fibre_of self.old)) }
+    {
+        'ports: for number in 0..PORTS as u8 {
+            self.finish_at(number)?;
         }
         Ok(())
     }
 
     /// Gives how many lanes a port has, if a line told of it.
-    fn told_of(&self, number: usize) -> Option<u16> {
+    fn told_of(&self, number: usize) -> Option<u16>
+        ensures { is_some result ≡ heard.is_told_at (heard.fibre_of self.now) number }
+    {
         self.ports.get(number)?.declared()
     }
 
     /// Gives the ports of which lines told, each with how many lanes it has: each change that is held back has its
     /// variable among them.
     pub(crate) fn declared(&self) -> [Option<u16>; PORTS]
-        ensures { spec.AreDeclared (spec.held_lanes self.now.held) result }
+        ensures declared { spec.AreDeclared (spec.held_lanes self.now.held) result }
+        ensures told { heard.ArePorts (heard.fibre_of self.now) result }
     {
         let mut declared = [None; PORTS];
         'ports: for number in 0..PORTS {

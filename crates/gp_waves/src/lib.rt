@@ -5,8 +5,8 @@
 //! up to where the writer stopped: its changes are of variables that are declared, and its times only rise. How it
 //! ended, how many lines fell, how many codes came and are garbled, how many changes are late, and whether all that was
 //! heard is outside of it, is told exactly (`dump_waves`); so is in which order the changes that are held back are
-//! written, and which changes of a port's variables each line makes. What is held back behind the last line, and which
-//! changes the units make, is tested.
+//! written, which changes of a port's variables each line makes, what ends behind the last one, and which ports are
+//! declared then. Which changes the units make, and how many lanes are declared for them, is tested.
 //!
 //! - `options.rt`: `WavesOptions`, the frames that are dumped, and how codes are read.
 //! - `held.rt`: the changes that are held back, so that those of all ports come in the order of their times.

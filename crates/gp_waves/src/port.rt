@@ -1,6 +1,6 @@
 //! What is kept of one port, and which changes something that is heard there makes.
 
-ghost use Rattle.std.specs.Prelude.{◌≡◌, IfOk, OnOk};
+ghost use Rattle.std.specs.Prelude.{◌≡◌, IfOk, OnOk, is_some};
 ghost use Rattle.gp_waves.specs.Hearing.{no_vars};
 ghost use Rattle.gp_watch.specs.Heard.{heard_of};
 ghost use Rattle.gp_tally.specs.Told.{kind_told};
@@ -147,7 +147,9 @@ impl Port {
     }
 
     /// How many lanes it has, if a line told of it.
-    pub(crate) fn declared(&self) -> Option<u16> {
+    pub(crate) fn declared(&self) -> Option<u16>
+        ensures { is_some result ≡ (spec.vars_of self.now).is_told }
+    {
         if self.is_told {
             Some(self.lanes.count())
         } else {

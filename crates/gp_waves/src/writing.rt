@@ -4,6 +4,7 @@ ghost use Rattle.std.specs.Prelude.{◌≡◌, ◌++◌, IfOk, OnOk, if◌then�
 ghost use Rattle.gp_dump.specs.Dump.{is_declared};
 ghost use Rattle.gp_waves.specs.Held.{AreDeclared, held_lanes, is_full, one_more};
 ghost use Rattle.gp_waves.specs.Drained.{Drains, DrainsAll};
+ghost use Rattle.gp_waves.specs.Hearing.{fibre_of};
 ghost use Rattle.gp_waves.specs.Writing as spec;
 
 use crate::fault::WavesFault;
@@ -143,7 +144,8 @@ impl Writing {
     /// lines told, each with as many lanes as it has. Fails only where there is no memory.
     pub(crate) fn rest(&mut self, alloc: Global, waves: &mut Waves) -> Result<Vec<u8>, AllocError>
         requires { self.old.begun ≡ true → self.old.dump.ports ≡ spec.all_ports }
-        ensures { IfOk result (λ text. spec.Rests self.old text.items self.new) }
+        ensures { IfOk result (λ text. spec.Rests waves.old.options.frames waves.old.options.mask (fibre_of waves.old)
+            self.old text.items self.new) }
     {
         let mut out = Vec::new(alloc);
         waves.finish()?;

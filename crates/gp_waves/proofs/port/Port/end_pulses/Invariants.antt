@@ -8,5 +8,6 @@ invariant-ends l = record {
       (ends_upto l._count l.fn.scope l.fn.time (record { pulses = l.fn.self.pulses; held = l.fn.held }));
   time : l.self.time ≡ l.fn.self.time;
   level : l.self.level ≡ l.fn.self.level;
+  told : l.self.is_told ≡ l.fn.self.is_told;
   asked : l.self.asked ≡ l.fn.self.asked;
 }
