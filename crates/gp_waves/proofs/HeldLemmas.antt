@@ -4,6 +4,8 @@ use Rattle.std.specs.Prelude.{if◌then◌else◌, [], ◌∷◌, ◌-◌, ◌||
 use Rattle.std.proofs.Math.Seq.{map-set_same}
 use Rattle.std.proofs.Math.ListN.{get_or-map}
 use Rattle.std.proofs.lemmas.Bool.{cases_Bool, eqb-false, lt-ltb}
+use Rattle.std.specs.List.{sum_by}
+use Rattle.std.proofs.lemmas.List.Sums.{sum_by-set}
 use Rattle.std.proofs.lemmas.List.{get_or_past, get_or-replicate, get_or-set_same, get_or-set_other}
 use Rattle.gp_dump.specs.declared.change.Change.{Change}
 use Rattle.gp_dump.specs.declared.change.Change.TheVariants as change
@@ -265,3 +267,42 @@ has_seen old seen port at queue same is first here none =
     let there : queue ≡ queue_at old.queues port =
     here ∙ ap (λ (l : List QueueState). queue_at l at) same ∙ ap (λ (n : ℕ). queue_at old.queues n) is in
     first_has old.queues port (sym first) (ap (λ (q : QueueState). q.changes) (sym there) ∙ none)
+
+-- ---- how many there are
+
+is_low : (port count : ℕ) → nat_lt port count ≡ true → port < count
+is_low port count is = grind arith
+
+is_past : (port count : ℕ) → nat_lt port count ≡ false → count ≤ port
+is_past port count isnt = grind arith
+
+low_unless : (port count : ℕ) → (count ≤ port → ⊥) → port < count
+low_unless port count unless =
+    elim (cases_Bool (nat_lt port count)) [
+      | inl is ↦ is_low port count is
+      | inr isnt ↦ absurd (unless (is_past port count isnt))
+    ]
+
+-- the changes of all ports
+abbrev pub in_queues : List QueueState → ℕ
+in_queues queues = sum_by (λ (queue : QueueState). length queue.changes) queues
+
+one_longer : (held : HeldChange) (rest : List HeldChange) → length (held ∷ rest) ≡ length rest + 1
+one_longer held rest = omega arith
+
+-- where one is taken there is one less
+pub fewer : (old : HeldState) (due : Due) (new : HeldState) → Takes old due new → in_queues new.queues + 1 ≡ in_queues old.queues
+fewer old due new t =
+    let left : QueueState = record (queue_at old.queues t.port) { changes = t.rest } in
+    let low : t.port < length old.queues = low_unless t.port (length old.queues) (λ beyond. first_within old.queues t.port t.first beyond) in
+    let put = sum_by-set (λ (queue : QueueState). length queue.changes) old.queues t.port left no_queue low in
+    let here : length (queue_at old.queues t.port).changes ≡ length t.rest + 1 =
+    ap (λ (l : List HeldChange). length l) t.changes ∙ one_longer t.held t.rest in
+    let is : in_queues new.queues ≡ in_queues (slice_set old.queues t.port left) = ap (λ (h : HeldState). in_queues h.queues) t.left in
+    omega (arith, put, here, is)
+
+-- so there are less than so many
+pub fewer_than : (old : HeldState) (due : Due) (new : HeldState) → Takes old due new → in_queues new.queues < in_queues old.queues
+fewer_than old due new t =
+    let less = fewer old due new t in
+    omega (arith, less)

@@ -1,15 +1,15 @@
 -- What is written, change by change.
-use Rattle.std.proofs.Common.{OnOk, Result, Ok, Err, ◌≡◌, ◌+◌, ◌⊎◌, ℕ, Bool, true, false, List, [], ◌∷◌, ◌++◌, length, Option, None, inl, inr, refl, sym, ap, subst, ◌∙◌, append_assoc, append-nil, length-append, arith}
+use Rattle.std.proofs.Common.{OnOk, Result, Ok, Err, ◌≡◌, ◌⊎◌, ℕ, Bool, true, false, List, [], ◌∷◌, ◌++◌, Option, None, inr, refl, sym, ap, subst, ◌∙◌, append_assoc, append-nil}
 use Rattle.std.proofs.lemmas.List.Elements.{All-head, All-nil, All-push, All-tail}
 use Rattle.gp_dump.specs.Dump.{Continues, DumpState, is_declared}
 use Rattle.gp_dump.specs.Head.{head_text}
 use Rattle.gp_dump.proofs.PartLemmas.{continues_more, continues_none, put_continues}
 use Rattle.gp_waves.specs.declared.held.Due.{Due}
-use Rattle.gp_waves.specs.Held.{AreDeclared, HeldState, Takes, TakesEach, first_port, held_lanes, is_full}
+use Rattle.gp_waves.specs.Held.{AreDeclared, HeldState, IsEmpty, Takes, TakesEach, held_lanes, is_full}
 use Rattle.gp_waves.specs.Hearing.{ArePorts, FibreState, finished}
 use Rattle.gp_ploam.specs.declared.check.Mask.{Mask}
 use Rattle.gp_times.specs.declared.frames.Frames.{Frames}
-use Rattle.gp_waves.specs.Writing.{AllDeclared, IsDump, IsLast, Rests, Spills, SpillsAll, Written, all_ports, due_text, dues_text, head_if_none, opened_at, ports_written, put_due, put_dues}
+use Rattle.gp_waves.specs.Writing.{AllDeclared, IsDump, Rests, Spills, SpillsAll, Written, all_ports, due_text, dues_text, head_if_none, opened_at, ports_written, put_due, put_dues}
 use Rattle.gp_waves.specs.Drained.{Drained, Drains, DrainsAll}
 
 -- this text was written while lines come: nothing, the declarations of all ports and what stands behind them, or more
@@ -256,20 +256,14 @@ spilled_if (Err e) old from out new to next none d = tt
 
 -- none is left
 pub drained_still : (test : HeldState → Bool) (old now new : HeldState) (from to : Written) (out next : List ℕ) (dues : List Due)
-    → Drained test old from out dues now to next → new ≡ now → first_port now.queues ≡ None
-    → (all : List Due) × Drained test old from out all new to next × ((is_full new ≡ false) ⊎ IsLast new all)
+    → Drained test old from out dues now to next → new ≡ now → IsEmpty now
+    → (all : List Due) × Drained test old from out all new to next × ((is_full new ≡ false) ⊎ IsEmpty new)
 drained_still test old now new from to out next dues d same none =
-    let last : IsLast now dues = inl none in
-    let end : (is_full now ≡ false) ⊎ IsLast now dues = inr last in (
+    let end : (is_full now ≡ false) ⊎ IsEmpty now = inr none in (
       dues,
       subst (λ (h : HeldState). Drained test old from out dues h to next) (sym same) d,
-      subst (λ (h : HeldState). (is_full h ≡ false) ⊎ IsLast h dues) (sym same) end,
+      subst (λ (h : HeldState). (is_full h ≡ false) ⊎ IsEmpty h) (sym same) end,
     )
-
-pub one_longer : (dues : List Due) (due : Due) (count : ℕ) → length dues ≡ count → length (dues ++ due ∷ []) ≡ count + 1
-one_longer dues due count is =
-    let long = length-append dues (due ∷ []) in
-    omega (arith, is, long)
 
 pub put_begun : (from to : Written) (due : Due) → to ≡ put_due from due → to.begun ≡ from.begun
 put_begun from to due is = ap (λ (w : Written). w.begun) is

@@ -77,6 +77,10 @@ port_if_any (Some (time, port)) = Some port
 abbrev pub first_port : List QueueState → Option ℕ
 first_port queues = port_if_any (first_upto queues max_ports)
 
+-- no port has a change
+abbrev pub IsEmpty : HeldState → Type 0
+IsEmpty held = first_port held.queues ≡ None
+
 -- what changes, as a change of a port
 abbrev pub change_of : ℕ → What → Change
 change_of port (what.OfPort to) = change.Port port to

@@ -1,5 +1,5 @@
 -- What is written of a dump (this profile's own rule).
-use Rattle.std.specs.Prelude.{◌≡◌, ◌⊎◌, ℕ, Bool, true, false, List, [], ◌∷◌, ◌++◌, Option, None, Some, if◌then◌else◌, nat_lt, length, max}
+use Rattle.std.specs.Prelude.{◌≡◌, ◌⊎◌, ℕ, Bool, true, false, List, [], ◌∷◌, ◌++◌, Option, None, Some, if◌then◌else◌, nat_lt, max}
 use Rattle.std.specs.List.{All}
 use Rattle.gp_dump.specs.Dump.{DumpState, IsDumpTo, is_declared, time_behind, time_text}
 use Rattle.gp_dump.specs.Head.{head_text}
@@ -8,7 +8,7 @@ use Rattle.gp_waves.specs.declared.held.Due.{Due}
 pub use Rattle.gp_waves.specs.Ports.{all_ports}
 use Rattle.gp_ploam.specs.declared.check.Mask.{Mask}
 use Rattle.gp_times.specs.declared.frames.Frames.{Frames}
-use Rattle.gp_waves.specs.Held.{AreDeclared, HeldState, TakesEach, first_port, held_lanes, is_full, most_counted, one_more}
+use Rattle.gp_waves.specs.Held.{AreDeclared, HeldState, IsEmpty, TakesEach, held_lanes, is_full, one_more}
 use Rattle.gp_waves.specs.Hearing.{ArePorts, FibreState, finished}
 
 -- whether the declarations are written, what stands behind them, the latest time of a change, and how many changes
@@ -65,15 +65,11 @@ AllDeclared ports dues = All (λ (due : Due). is_declared ports due.change ≡ t
 abbrev pub ports_written : Written → List (Option ℕ)
 ports_written written = (opened_at all_ports written).dump.ports
 
--- no more is taken: there is none, or so many were as can be counted
-abbrev pub IsLast : HeldState → List Due → Type 0
-IsLast held dues = (first_port held.queues ≡ None) ⊎ (length dues ≡ most_counted)
-
 -- while more changes are held back than may be, the first is taken and written
 pub record Spills (old : HeldState) (from : Written) (said : List ℕ) (new : HeldState) (to : Written) : Type 0 where
   pub dues : List Due
   pub taken : TakesEach is_full old dues new
-  pub last : (is_full new ≡ false) ⊎ IsLast new dues
+  pub last : (is_full new ≡ false) ⊎ IsEmpty new
   pub declared : AllDeclared (ports_written from) dues
   pub text : said ≡ dues_text from dues
   pub put : to ≡ put_dues from dues
@@ -83,7 +79,7 @@ pub record SpillsAll (old : HeldState) (from : Written) (said : List ℕ) (to : 
   pub dues : List Due
   pub left : HeldState
   pub taken : TakesEach (λ _. true) old dues left
-  pub last : IsLast left dues
+  pub last : IsEmpty left
   pub declared : AllDeclared (ports_written from) dues
   pub text : said ≡ dues_text from dues
   pub put : to ≡ put_dues from dues

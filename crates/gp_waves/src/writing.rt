@@ -99,10 +99,7 @@ impl Writing {
         ensures drained { OnOk result (Drains waves.old.held self.old out.old.items waves.new.held
             self.new out.new.items) }
     {
-        'changes: for _count in 0..u64::MAX {
-            if !waves.is_full() {
-                return Ok(());
-            }
+        'changes: while waves.is_full() {
             let Some(due) = waves.take_first() else {
                 return Ok(());
             };
@@ -120,10 +117,7 @@ impl Writing {
         requires declared { AreDeclared (held_lanes waves.old.held) self.old.dump.ports }
         ensures { OnOk result (DrainsAll waves.old.held self.old out.old.items self.new out.new.items) }
     {
-        'changes: for _count in 0..u64::MAX {
-            let Some(due) = waves.take_first() else {
-                return Ok(());
-            };
+        'changes: while let Some(due) = waves.take_first() {
             self.put(out, &due)?;
         }
         Ok(())
