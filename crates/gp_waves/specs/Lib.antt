@@ -5,6 +5,8 @@ pub mod Held
 pub mod Writing
 pub mod Drained
 pub mod Pulses
+pub mod Touched
+pub mod Units
 pub mod Port
 pub mod Hearing
 pub mod Dumping

@@ -1,5 +1,7 @@
 //! The units of a port, a lane each. A unit that has none takes one that no unit ever had, or the one that changed
 //! longest ago of those whose unit holds no ONU-ID.
+ghost use Rattle.std.specs.Prelude.{◌≡◌};
+ghost use Rattle.gp_waves.specs.Units as spec;
 
 use gp_dump::{UnitChange, UnitState};
 use gp_ploam::Serial;
@@ -12,7 +14,7 @@ pub(crate) const MOST_LANES: u16 = 256;
 
 /// What is known of a unit.
 #[derive(Clone, Copy, PartialEq, Eq)]
-pub(crate) struct Unit {
+pub(crate) struct KnownUnit {
     pub(crate) state: UnitState,
     /// The ONU-ID that it holds.
     pub(crate) onu: Option<u8>,
@@ -25,7 +27,7 @@ pub(crate) struct Unit {
 struct Lane {
     serial: Serial,
     /// What was told of it last.
-    unit: Option<Unit>,
+    unit: Option<KnownUnit>,
     /// How many changes of lanes there were by its last one.
     age: u64,
 }
@@ -50,9 +52,18 @@ pub(crate) struct Lanes {
     age: u64,
 }
 
-impl Unit {
+/// Gives a change of a variable, unless its value is the same.
+fn change_unless(is_same: bool, change: UnitChange) -> Option<UnitChange>
+    ensures { result ≡ spec.change_unless is_same change }
+{
+    if is_same { None } else { Some(change) }
+}
+
+impl KnownUnit {
     /// Gives what is known of a unit that holds an ONU-ID.
-    fn held(watch: &PortWatch, serial: &Serial) -> Option<Unit> {
+    fn held(watch: &PortWatch, serial: &Serial) -> Option<KnownUnit>
+        ensures { result ≡ spec.unit_held watch.now serial.now }
+    {
         let onu = watch.onu_of(serial)?;
         let delay = watch.delay(onu);
         let state = if delay.is_some() {
@@ -60,7 +71,7 @@ impl Unit {
         } else {
             UnitState::Ranging
         };
-        Some(Unit {
+        Some(KnownUnit {
             state,
             onu: Some(onu),
             delay,
@@ -68,8 +79,10 @@ impl Unit {
     }
 
     /// Gives that of one that does this, and holds no ONU-ID.
-    fn without_onu(state: UnitState) -> Unit {
-        Unit {
+    fn without_onu(state: UnitState) -> KnownUnit
+        ensures { result ≡ spec.without_onu state }
+    {
+        KnownUnit {
             state,
             onu: None,
             delay: None,
@@ -77,39 +90,66 @@ impl Unit {
     }
 
     /// Gives that of a unit that asks.
-    fn asking(watch: &PortWatch, serial: &Serial) -> Unit {
-        Unit::held(watch, serial).unwrap_or(Unit::without_onu(UnitState::Asking))
+    fn asking(watch: &PortWatch, serial: &Serial) -> KnownUnit
+        ensures { result ≡ spec.unit_asking watch.now serial.now }
+    {
+        match KnownUnit::held(watch, serial) {
+            Some(unit) => unit,
+            None => KnownUnit::without_onu(UnitState::Asking),
+        }
     }
 
     /// Gives that of a unit that a message touched: one that asks goes on asking, unless the message disables it.
-    fn touched(self, watch: &PortWatch, serial: &Serial, disables: bool) -> Unit {
-        match Unit::held(watch, serial) {
+    fn touched(self, watch: &PortWatch, serial: &Serial, disables: bool) -> KnownUnit
+        ensures { result ≡ spec.unit_touched watch.now serial.now disables self }
+    {
+        match KnownUnit::held(watch, serial) {
             Some(unit) => unit,
-            None if self.state == UnitState::Asking && !disables => self,
-            None => Unit::without_onu(UnitState::Removed),
+            None => match self.state {
+                UnitState::Asking if !disables => self,
+                _ => KnownUnit::without_onu(UnitState::Removed),
+            },
+        }
+    }
+
+    /// Gives which variables of its lane change where this was known of it before.
+    fn changes_from(&self, old: &KnownUnit, lane: u16) -> LaneChanges
+        ensures { result ≡ spec.changes_from old.now lane self.now }
+    {
+        let state = UnitChange::State(self.state);
+        let onu = UnitChange::Onu(self.onu);
+        let delay = UnitChange::Delay(self.delay);
+        LaneChanges {
+            lane,
+            serial: None,
+            state: change_unless(old.state == self.state, state),
+            onu: change_unless(old.onu == self.onu, onu),
+            delay: change_unless(old.delay == self.delay, delay),
         }
     }
 }
 
 impl Lane {
     /// Gives which of its variables change where this is known of its unit.
-    fn changes(&self, lane: u16, unit: Unit) -> LaneChanges {
-        let old = self.unit;
-        let is_new = old.is_none();
-        let state = old.map(|old| old.state) != Some(unit.state);
-        let onu = old.map(|old| old.onu) != Some(unit.onu);
-        let delay = old.map(|old| old.delay) != Some(unit.delay);
-        LaneChanges {
-            lane,
-            serial: is_new.then_some(UnitChange::Serial(self.serial)),
-            state: state.then_some(UnitChange::State(unit.state)),
-            onu: onu.then_some(UnitChange::Onu(unit.onu)),
-            delay: delay.then_some(UnitChange::Delay(unit.delay)),
+    fn changes(&self, lane: u16, unit: KnownUnit) -> LaneChanges
+        ensures { result ≡ spec.changes_of self.now.serial self.now.unit lane unit }
+    {
+        match self.unit {
+            Some(old) => unit.changes_from(&old, lane),
+            None => LaneChanges {
+                lane,
+                serial: Some(UnitChange::Serial(self.serial)),
+                state: Some(UnitChange::State(unit.state)),
+                onu: Some(UnitChange::Onu(unit.onu)),
+                delay: Some(UnitChange::Delay(unit.delay)),
+            },
         }
     }
 
     /// Tells whether its unit holds no ONU-ID.
-    fn is_free(&self) -> bool {
+    fn is_free(&self) -> bool
+        ensures { result ≡ spec.is_free self.now.unit }
+    {
         match self.unit {
             Some(unit) => unit.onu.is_none(),
             None => true,
@@ -196,7 +236,7 @@ impl Lanes {
     }
 
     /// Notes what is known of the unit of a lane, and gives what changes.
-    fn note(&mut self, place: u16, unit: Unit) -> Option<LaneChanges> {
+    fn note(&mut self, place: u16, unit: KnownUnit) -> Option<LaneChanges> {
         self.age = self.age.saturating_add(1);
         let lane = self.lanes.get_mut(usize::from(place))?;
         let changes = lane.changes(place, unit);
@@ -208,7 +248,7 @@ impl Lanes {
     /// Notes that the unit of a lane asks.
     pub(crate) fn ask(&mut self, watch: &PortWatch, place: u16) -> Option<LaneChanges> {
         let serial = self.lanes.get(usize::from(place))?.serial;
-        self.note(place, Unit::asking(watch, &serial))
+        self.note(place, KnownUnit::asking(watch, &serial))
     }
 
     /// Notes that a message touched the unit of a lane, or disables it.
@@ -219,7 +259,9 @@ impl Lanes {
         disables: bool,
     ) -> Option<LaneChanges> {
         let lane = *self.lanes.get(usize::from(place))?;
-        let before = lane.unit.unwrap_or(Unit::without_onu(UnitState::Removed));
+        let before = lane
+            .unit
+            .unwrap_or(KnownUnit::without_onu(UnitState::Removed));
         self.note(place, before.touched(watch, &lane.serial, disables))
     }
 

@@ -1,4 +1,7 @@
 //! Which units a message touches, by what is known before it: those whose lanes are looked at again.
+ghost use Rattle.std.specs.Prelude.{◌≡◌};
+ghost use Rattle.gp_watch.specs.Heard.{heard_of};
+ghost use Rattle.gp_waves.specs.Touched as spec;
 
 use gp_ploam::{BROADCAST_ONU, Down, Serial, Up};
 use gp_watch::{Heard, PortWatch};
@@ -21,7 +24,9 @@ pub(crate) enum Touched {
 }
 
 /// Gives the unit that holds an ONU-ID, or all.
-fn holder(watch: &PortWatch, onu: u8) -> Touched {
+fn holder(watch: &PortWatch, onu: u8) -> Touched
+    ensures { result ≡ spec.holder_touched watch.now onu }
+{
     if onu == BROADCAST_ONU {
         return Touched::All;
     }
@@ -32,7 +37,9 @@ fn holder(watch: &PortWatch, onu: u8) -> Touched {
 }
 
 /// Gives the units that a message down touches.
-fn touched_down(watch: &PortWatch, message: &Down) -> Touched {
+fn touched_down(watch: &PortWatch, message: &Down) -> Touched
+    ensures { result ≡ spec.down_touched watch.now message.now }
+{
     match message {
         Down::AssignOnu { onu, serial } => match watch.holder(*onu) {
             Some(before) => Touched::Two(before, *serial),
@@ -47,7 +54,9 @@ fn touched_down(watch: &PortWatch, message: &Down) -> Touched {
 }
 
 /// Gives the unit that a message up touches.
-fn touched_up(message: &Up) -> Touched {
+fn touched_up(message: &Up) -> Touched
+    ensures { result ≡ spec.up_touched message.now }
+{
     match message {
         Up::SerialNumber { onu, serial, .. } if *onu == BROADCAST_ONU => Touched::Asks(*serial),
         _ => Touched::Nobody,
@@ -55,7 +64,9 @@ fn touched_up(message: &Up) -> Touched {
 }
 
 /// Gives the units that something heard touches, by what is known before it.
-pub(crate) fn units_touched(watch: &PortWatch, heard: &Heard) -> Touched {
+pub(crate) fn units_touched(watch: &PortWatch, heard: &Heard) -> Touched
+    ensures { result ≡ spec.units_touched watch.now (heard_of heard.now) }
+{
     match heard {
         Heard::Down(Some(message)) => touched_down(watch, message),
         Heard::Up {
