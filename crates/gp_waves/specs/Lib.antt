@@ -7,6 +7,7 @@ pub mod Drained
 pub mod Pulses
 pub mod Touched
 pub mod Units
+pub mod Lanes
 pub mod Port
 pub mod Hearing
 pub mod Dumping

@@ -30,8 +30,8 @@ use Rattle.gp_waves.specs.declared.pulses.Pulses.{Pulses}
 use Rattle.gp_waves.specs.Held.{HeldState, kept}
 use Rattle.gp_waves.specs.Pulses.{Ending, first_past, pulse_begun, window_shortened, with_end}
 
--- what stands on a port, its time, the level of its frames, whether a line told of it, and whom the window asks that was
--- opened last
+-- what stands on a port, its time, the level of its frames, whether a line told of it, and whom the window asks that
+-- was opened last
 pub record PortVars : Type 0 where
   pub pulses : Pulses
   pub time : ℕ

@@ -1,4 +1,5 @@
 -- Which units something heard touches, by what is known before it (this profile's own rule).
+-- Inside: no public contract cites this.
 use Rattle.std.specs.Prelude.{ℕ, ◌==◌, Option, None, Some, if◌then◌else◌}
 use Rattle.std.specs.FinMap.{get}
 use Rattle.gp_ploam.specs.declared.message.Down.{Down}

@@ -1,4 +1,5 @@
 -- What is known of a unit of a port, and which variables of its lane change with it (this profile's own rule).
+-- Inside: no public contract cites this.
 use Rattle.std.specs.Prelude.{ℕ, Bool, true, false, Option, None, Some, if◌then◌else◌, is_some, nat_eq}
 use Rattle.std.specs.FinMap.{get}
 use Rattle.std.specs.Option.{option_eq}

@@ -1,6 +1,7 @@
 //! The units of a port, a lane each. A unit that has none takes one that no unit ever had, or the one that changed
 //! longest ago of those whose unit holds no ONU-ID.
-ghost use Rattle.std.specs.Prelude.{◌≡◌};
+ghost use Rattle.std.specs.Prelude.{◌≡◌, slice_get};
+ghost use Rattle.gp_waves.specs.Lanes as port_lanes;
 ghost use Rattle.gp_waves.specs.Units as spec;
 
 use gp_dump::{UnitChange, UnitState};
@@ -236,7 +237,10 @@ impl Lanes {
     }
 
     /// Notes what is known of the unit of a lane, and gives what changes.
-    fn note(&mut self, place: u16, unit: KnownUnit) -> Option<LaneChanges> {
+    fn note(&mut self, place: u16, unit: KnownUnit) -> Option<LaneChanges>
+        ensures noted { port_lanes.state_of self.new ≡ port_lanes.noted place unit (port_lanes.state_of self.old) }
+        ensures changes { result ≡ port_lanes.changes_at place unit (port_lanes.state_of self.old) }
+    {
         self.age = self.age.saturating_add(1);
         let lane = self.lanes.get_mut(usize::from(place))?;
         let changes = lane.changes(place, unit);
@@ -246,7 +250,12 @@ impl Lanes {
     }
 
     /// Notes that the unit of a lane asks.
-    pub(crate) fn ask(&mut self, watch: &PortWatch, place: u16) -> Option<LaneChanges> {
+    pub(crate) fn ask(&mut self, watch: &PortWatch, place: u16) -> Option<LaneChanges>
+        ensures noted { port_lanes.state_of self.new ≡ port_lanes.noted_if place
+            (port_lanes.asks_in (slice_get self.old.lanes.items place) watch.now) (port_lanes.state_of self.old) }
+        ensures changes { result ≡ port_lanes.changes_if place
+            (port_lanes.asks_in (slice_get self.old.lanes.items place) watch.now) (port_lanes.state_of self.old) }
+    {
         let serial = self.lanes.get(usize::from(place))?.serial;
         self.note(place, KnownUnit::asking(watch, &serial))
     }
@@ -257,16 +266,26 @@ impl Lanes {
         watch: &PortWatch,
         place: u16,
         disables: bool,
-    ) -> Option<LaneChanges> {
+    ) -> Option<LaneChanges>
+        ensures noted { port_lanes.state_of self.new ≡ port_lanes.noted_if place
+            (port_lanes.touches_in (slice_get self.old.lanes.items place) watch.now disables)
+            (port_lanes.state_of self.old) }
+        ensures changes { result ≡ port_lanes.changes_if place
+            (port_lanes.touches_in (slice_get self.old.lanes.items place) watch.now disables)
+            (port_lanes.state_of self.old) }
+    {
         let lane = *self.lanes.get(usize::from(place))?;
-        let before = lane
-            .unit
-            .unwrap_or(KnownUnit::without_onu(UnitState::Removed));
+        let before = match lane.unit {
+            Some(unit) => unit,
+            None => KnownUnit::without_onu(UnitState::Removed),
+        };
         self.note(place, before.touched(watch, &lane.serial, disables))
     }
 
     /// Gives all that is known of the unit of a lane.
-    pub(crate) fn all_of(&self, place: u16) -> Option<LaneChanges> {
+    pub(crate) fn all_of(&self, place: u16) -> Option<LaneChanges>
+        ensures { result ≡ port_lanes.all_in (slice_get self.now.lanes.items place) place }
+    {
         let lane = self.lanes.get(usize::from(place))?;
         let unit = lane.unit?;
         let anew = Lane {
