@@ -17,11 +17,13 @@ use Rattle.gp_times.specs.declared.frames.Frames.{Frames}
 use Rattle.gp_times.specs.Times.{frame_of}
 use Rattle.gp_dump.specs.declared.change.PortChange.{PortChange}
 use Rattle.gp_dump.specs.declared.change.PortChange.TheVariants as port
+use Rattle.gp_dump.specs.declared.change.UnitChange.{UnitChange}
 use Rattle.gp_dump.specs.declared.change.WindowKind.{WindowKind}
 use Rattle.gp_dump.specs.declared.change.WindowKind.TheVariants as window
 use Rattle.gp_waves.specs.declared.held.HeldChange.{HeldChange}
 use Rattle.gp_waves.specs.declared.held.What.{What}
 use Rattle.gp_waves.specs.declared.held.What.TheVariants as what
+use Rattle.gp_waves.specs.declared.lanes.LaneChanges.{LaneChanges}
 use Rattle.gp_waves.specs.declared.port.Port.{Port}
 use Rattle.gp_waves.specs.declared.port.Scope.{Scope}
 use Rattle.gp_waves.specs.declared.pulses.Pulse.{Pulse}
@@ -73,11 +75,27 @@ KeepsUnits number old new =
     (changes : List HeldChange) × All (λ (change : HeldChange). IsOfUnit change.what) changes
     × (new ≡ kept_each number changes old)
 
--- ---- changes of a port
-
 -- the frame of a time is dumped
 abbrev pub holds : Frames → ℕ → Bool
 holds frames time = nat_le frames.from (frame_of time) && nat_le (frame_of time) frames.to
+
+-- a change of a variable of a lane, if there is one, and its frame is dumped
+abbrev pub unit_told : Scope → ℕ → ℕ → Option UnitChange → HeldState → HeldState
+unit_told scope time lane None held = held
+unit_told scope time lane (Some to) held =
+    if holds scope.frames time
+    then kept scope.port (record { time = time; what = what.OfUnit lane to }) held
+    else held
+
+-- what changes of a lane, if something does
+abbrev pub lane_told : Scope → ℕ → Option LaneChanges → HeldState → HeldState
+lane_told scope time None held = held
+lane_told scope time (Some changes) held =
+    unit_told scope time changes.lane changes.delay
+    (unit_told scope time changes.lane changes.onu
+    (unit_told scope time changes.lane changes.state (unit_told scope time changes.lane changes.serial held)))
+
+-- ---- changes of a port
 
 -- a change of a variable of the port, if its frame is dumped
 abbrev pub told : Scope → ℕ → PortChange → HeldState → HeldState

@@ -83,7 +83,8 @@ impl Scope {
         lane: u16,
         what: Option<UnitChange>,
     ) -> Result<(), WavesFault>
-        ensures { OnOk result (spec.KeepsUnits self.now.port held.old held.new) }
+        ensures told { OnOk result (held.new ≡ spec.unit_told self.now time lane what held.old) }
+        ensures units { OnOk result (spec.KeepsUnits self.now.port held.old held.new) }
     {
         match what {
             Some(what) if self.frames.hold(time) => held.keep_unit(self.port, time, lane, what),
@@ -98,7 +99,8 @@ impl Scope {
         time: u64,
         changes: Option<LaneChanges>,
     ) -> Result<(), WavesFault>
-        ensures { OnOk result (spec.KeepsUnits self.now.port held.old held.new) }
+        ensures told { OnOk result (held.new ≡ spec.lane_told self.now time changes held.old) }
+        ensures units { OnOk result (spec.KeepsUnits self.now.port held.old held.new) }
     {
         let Some(changes) = changes else {
             return Ok(());
